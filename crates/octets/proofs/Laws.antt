@@ -14,6 +14,8 @@ use lib.Dec.{leb}
 use borrow.Author.Tests.{le-leb, lt-leb, leb-true, leb-false}
 use Rattle.octets.specs.Verdict.{Verdict, refuse, accept, require, andThen, accepts}
 use Rattle.octets.specs.Octets.{bigEndianFrom, bigEndian, bytesOf, put}
+use Rattle.octets.specs.Output.{roomFor, laid, counted, written, Wrote}
+use Rattle.octets.specs.declared.Written.the-variants.{Bytes, Refused}
 
 -- ---- verdicts
 
@@ -71,6 +73,14 @@ pub put-not : (d : List ℕ) (at : ℕ) (vs : List ℕ) → length d < at + leng
 unfolding put
 put-not d at vs h = rw (lt-leb _ _ h)
 
+-- what does not fit leaves the buffer as it was
+module _ (d : List ℕ) (at : ℕ) (vs : List ℕ) where
+  pub put-past : length d < at → d ≡ put d at vs
+  put-past h = sym (put-not d at vs (omega arith))
+
+  pub put-over : (n : ℕ) → n ≡ length vs → length d - at < n → at ≤ length d → d ≡ put d at vs
+  put-over n e h k = sym (put-not d at vs (omega arith))
+
 sets-put : (vs d : List ℕ) (at : ℕ) → at + length vs ≤ length d → sets d at vs ≡ put d at vs
 sets-put vs d at h = sets-eq vs d at h ∙ sym (put-fits d at vs h)
 
@@ -97,6 +107,10 @@ put-put a b d at h =
     ∙ ap (λ (l : List ℕ). sets l (at + length a) b) (sym (sets-put a d at ha))
     ∙ sets-sets a b d at
     ∙ sets-put (a ++ b) d at hc
+
+-- the same, where the place is known as a number
+pub put-more : (a b d o o′ : List ℕ) (at k : ℕ) → k ≡ at + length a → k + length b ≤ length d → o ≡ put d at a → o′ ≡ put o k b → o′ ≡ put d at (a ++ b)
+put-more a b d o o′ at k e h p q = q ∙ rw (p, e) (put-put a b d at (omega arith))
 
 -- the same from the front on, where the place is known as a number
 pub put-next : (a b d : List ℕ) (k : ℕ) → length a ≡ k → k + length b ≤ length d → put (put d 0 a) k b ≡ put d 0 (a ++ b)
@@ -126,3 +140,25 @@ put-before d at b vs h =
     ∙ ap (λ (x : List ℕ). take at d ++ b ∷ x) g
     ∙ ap (λ (n : ℕ). take at d ++ (b ∷ vs ++ drop n d)) (sym q)
     ∙ sym (put-fits d at (b ∷ vs) (omega arith) ∙ append-assoc (take at d) (b ∷ vs) (drop (at + suc (length vs)) d))
+
+-- ---- the lent output
+
+-- what is laid at the front
+pub put-front : (d vs : List ℕ) → length vs ≤ length d → put d 0 vs ≡ vs ++ drop (length vs) d
+put-front d vs h = put-fits d 0 vs (omega arith) ∙ ap (λ (n : ℕ). vs ++ drop n d) (zero-add (length vs))
+
+pub wrote-no : (v : Verdict (List ℕ)) (k : ℕ) (d : List ℕ) → v ≡ refuse k → Wrote v (Refused k) d d
+unfolding written counted laid
+wrote-no v k d e = record { answer = rw e; output = rw e }
+
+pub wrote-yes : (v : Verdict (List ℕ)) (bytes : List ℕ) (n : ℕ) (d o : List ℕ) → v ≡ accept bytes → n ≡ length bytes → n ≤ length d → o ≡ put d 0 bytes → Wrote v (Bytes n) d o
+unfolding written counted laid
+wrote-yes v bytes n d o e l h q = record { answer = rw (e, l); output = rw e (q ∙ put-front d bytes (omega arith)) }
+
+pub room-yes : (lent : ℕ) (out : List ℕ) → 16384 + 2 * lent ≤ length out → roomFor lent out ≡ true
+unfolding roomFor
+room-yes lent out h = le-leb _ _ h
+
+pub room-no : (lent : ℕ) (out : List ℕ) → length out < 16384 + 2 * lent → roomFor lent out ≡ false
+unfolding roomFor
+room-no lent out h = lt-leb _ _ h

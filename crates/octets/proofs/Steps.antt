@@ -12,7 +12,7 @@ use lib.Pow.{pow-mono, pow-add}
 use mir.Syntax.{w64}
 use mir.Val.{Fits}
 use Rattle.octets.specs.Octets.{bigEndian, bytesOf, put}
-use Rattle.octets.proofs.Laws.{be-snoc, put-fits, put-not, put-nothing, put-before, length-put, length-bytesOf}
+use Rattle.octets.proofs.Laws.{be-snoc, put-fits, put-over, put-nothing, put-before, length-bytesOf}
 
 -- ---- number
 
@@ -49,12 +49,8 @@ module _ (s : List ℕ) (x i : ℕ) (e : x ≡ bigEndian (take i s)) (low : x < 
 
 -- ---- put_number: from the last byte on
 
-module _ (d : List ℕ) (at w : ℕ) where
-  pub number-past : (x : ℕ) → length d < at → d ≡ put d at (bytesOf w x)
-  number-past x h = sym (put-not d at (bytesOf w x) (omega arith))
-
-  pub number-over : (x : ℕ) → length d - at < w → at ≤ length d → d ≡ put d at (bytesOf w x)
-  number-over x h k = sym (put-not d at (bytesOf w x) (omega (arith, length-bytesOf w x)))
+pub number-over : (d : List ℕ) (at w x : ℕ) → length d - at < w → at ≤ length d → d ≡ put d at (bytesOf w x)
+number-over d at w x h k = put-over d at (bytesOf w x) w (sym (length-bytesOf w x)) h k
 
 -- the bytes from `left` on are laid, and y holds those before them
 abbrev pub Laid : List ℕ → ℕ → ℕ → ℕ → List ℕ → ℕ → ℕ → Type 0
@@ -87,12 +83,8 @@ laid-all d at w x out left y h inv =
 
 -- ---- copy
 
-module _ (d : List ℕ) (at : ℕ) (src : List ℕ) where
-  pub copy-past : length d < at → d ≡ put d at src
-  copy-past h = sym (put-not d at src (omega arith))
-
-  pub copy-over : length d - at < length src → at ≤ length d → d ≡ put d at src
-  copy-over h k = sym (put-not d at src (omega arith))
+pub copy-over : (d : List ℕ) (at : ℕ) (src : List ℕ) → length d - at < length src → at ≤ length d → d ≡ put d at src
+copy-over d at src h k = put-over d at src (length src) refl h k
 
 pub copy-more : (out d src : List ℕ) (at i : ℕ) → out ≡ paste d at src i → at ≤ length d → length src ≤ length d - at → i < length src → set out (at + i) (getD src i 0) ≡ paste d at src (i + 1)
 copy-more out d src at i e h k l =

@@ -6,11 +6,12 @@ use native.Mathlib.Omega.{arith}
 use lib.ListN.{length, length-set}
 use lib.Seq.{paste, paste-zero}
 use borrow.Author.Needs.{needs}
-use Rattle.octets.proofs.Steps.{copy-past, copy-over, copy-more, copy-done}
+use Rattle.octets.proofs.Laws.{put-past}
+use Rattle.octets.proofs.Steps.{copy-over, copy-more, copy-done}
 use Rattle.octets.proofs.copy.Statement.{statement}
 use Rattle.octets.proofs.copy.Tie as tie
 
-ruleset steps = (copy-past, copy-over, copy-done, needs)
+ruleset steps = (put-past, copy-over, copy-done, needs)
 
 abbrev Inv-loop : tie.InvT-loop
 Inv-loop out₀ at src i₀ out i = (i ≤ length src) × (length out ≡ length out₀) × (out ≡ paste out₀ at src i)

@@ -4,11 +4,12 @@ use Prim.Native.Nat.{_-_}
 use native.Mathlib.Omega.{arith}
 use lib.ListN.{length-set}
 use borrow.Author.Needs.{needs}
-use Rattle.octets.proofs.Steps.{number-past, number-over, Laid, laid-none, laid-more, laid-all}
+use Rattle.octets.proofs.Laws.{put-past}
+use Rattle.octets.proofs.Steps.{number-over, Laid, laid-none, laid-more, laid-all}
 use Rattle.octets.proofs.put_number.Statement.{statement}
 use Rattle.octets.proofs.put_number.Tie as tie
 
-ruleset steps = (number-past, number-over, laid-none, laid-more, laid-all, needs)
+ruleset steps = (put-past, number-over, laid-none, laid-more, laid-all, needs)
 
 abbrev Inv-loop : tie.InvT-loop
 Inv-loop out₀ at w x left₀ y₀ out left y = Laid out₀ at w x out left y

@@ -1,0 +1,9 @@
+-- What the proofs of several functions, and of the crates above, use.
+pub mod Cases
+pub mod Bounds
+pub mod Table
+pub mod Steps
+pub mod Apart
+pub mod Laws
+pub mod Written
+pub mod Examples

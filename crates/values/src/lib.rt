@@ -1,0 +1,546 @@
+// Whether bytes start with one well-formed AMQP 1.0 value, and where it ends.
+ghost use mathlib.Core.Path.{_≡_};
+ghost use Rattle.values.specs.Value.{
+  kindOf,
+  numberIn,
+  pairedIn,
+  opening,
+  bytes,
+  booleanEnd,
+  variableEnd,
+  items,
+  compoundEnd,
+  body,
+  times,
+  run,
+  valueEnd,
+};
+ghost use Rattle.values.specs.Answers.{
+  ended,
+  widthOf,
+  shapeSaid,
+  kindSaid,
+  codeSaid,
+  numberSaid,
+  openingSaid,
+};
+
+// A field of a performative stands at the first of so many levels.
+pub const DEPTH: u8 = 16;
+
+// Where a value ends: the number of bytes that it takes.
+pub enum Value {
+    End(usize),
+    Malformed,
+}
+
+enum Shape {
+    List,
+    Map,
+    Array,
+}
+
+// What stands after a format code. The bool says whether sizes and counts have four bytes, and not one.
+enum Kind {
+    Fixed(u8),
+    Boolean,
+    Variable(bool),
+    Compound(Shape, bool),
+}
+
+enum Code {
+    Known(Kind),
+    Unknown,
+}
+
+// A size or a count.
+enum Number {
+    Is(u32),
+    Short,
+}
+
+// The size and the count of a compound.
+enum Opening {
+    Counted { size: u32, count: u32 },
+    Malformed,
+}
+
+// The kind of each format code, as `code_of` reads it: to 16 the width of a fixed one, and 255 where there is no such code.
+const KINDS: [u8; 256] = [
+    255,
+    255,
+    255,
+    255,
+    255,
+    255,
+    255,
+    255,
+    255,
+    255,
+    255,
+    255,
+    255,
+    255,
+    255,
+    255,
+    255,
+    255,
+    255,
+    255,
+    255,
+    255,
+    255,
+    255,
+    255,
+    255,
+    255,
+    255,
+    255,
+    255,
+    255,
+    255,
+    255,
+    255,
+    255,
+    255,
+    255,
+    255,
+    255,
+    255,
+    255,
+    255,
+    255,
+    255,
+    255,
+    255,
+    255,
+    255,
+    255,
+    255,
+    255,
+    255,
+    255,
+    255,
+    255,
+    255,
+    255,
+    255,
+    255,
+    255,
+    255,
+    255,
+    255,
+    255,
+    0, // 40 null
+    0, // 41 true
+    0, // 42 false
+    0, // 43 uint 0
+    0, // 44 ulong 0
+    0, // 45 list of none
+    255,
+    255,
+    255,
+    255,
+    255,
+    255,
+    255,
+    255,
+    255,
+    255,
+    1, // 50 ubyte
+    1, // 51 byte
+    1, // 52 uint
+    1, // 53 ulong
+    1, // 54 int
+    1, // 55 long
+    17, // 56 boolean
+    255,
+    255,
+    255,
+    255,
+    255,
+    255,
+    255,
+    255,
+    255,
+    2, // 60 ushort
+    2, // 61 short
+    255,
+    255,
+    255,
+    255,
+    255,
+    255,
+    255,
+    255,
+    255,
+    255,
+    255,
+    255,
+    255,
+    255,
+    4, // 70 uint
+    4, // 71 int
+    4, // 72 float
+    4, // 73 char
+    4, // 74 decimal32
+    255,
+    255,
+    255,
+    255,
+    255,
+    255,
+    255,
+    255,
+    255,
+    255,
+    255,
+    8, // 80 ulong
+    8, // 81 long
+    8, // 82 double
+    8, // 83 timestamp
+    8, // 84 decimal64
+    255,
+    255,
+    255,
+    255,
+    255,
+    255,
+    255,
+    255,
+    255,
+    255,
+    255,
+    255,
+    255,
+    255,
+    255,
+    16, // 94 decimal128
+    255,
+    255,
+    255,
+    16, // 98 uuid
+    255,
+    255,
+    255,
+    255,
+    255,
+    255,
+    255,
+    18, // A0 binary
+    18, // A1 string
+    255,
+    18, // A3 symbol
+    255,
+    255,
+    255,
+    255,
+    255,
+    255,
+    255,
+    255,
+    255,
+    255,
+    255,
+    255,
+    19, // B0 binary
+    19, // B1 string
+    255,
+    19, // B3 symbol
+    255,
+    255,
+    255,
+    255,
+    255,
+    255,
+    255,
+    255,
+    255,
+    255,
+    255,
+    255,
+    20, // C0 list
+    22, // C1 map
+    255,
+    255,
+    255,
+    255,
+    255,
+    255,
+    255,
+    255,
+    255,
+    255,
+    255,
+    255,
+    255,
+    255,
+    21, // D0 list
+    23, // D1 map
+    255,
+    255,
+    255,
+    255,
+    255,
+    255,
+    255,
+    255,
+    255,
+    255,
+    255,
+    255,
+    255,
+    255,
+    24, // E0 array
+    255,
+    255,
+    255,
+    255,
+    255,
+    255,
+    255,
+    255,
+    255,
+    255,
+    255,
+    255,
+    255,
+    255,
+    255,
+    25, // F0 array
+    255,
+    255,
+    255,
+    255,
+    255,
+    255,
+    255,
+    255,
+    255,
+    255,
+    255,
+    255,
+    255,
+    255,
+    255,
+];
+
+// The kind of a format code.
+fn code_of(c: u8) -> Code
+    ensures { λ r. ⌜ codeSaid r ≡ kindOf c ⌝ }
+{
+    let i = c as usize;
+    let n = KINDS[i];
+    match n {
+        0..=16 => Code::Known(Kind::Fixed(n)),
+        17 => Code::Known(Kind::Boolean),
+        18 => Code::Known(Kind::Variable(false)),
+        19 => Code::Known(Kind::Variable(true)),
+        20 => Code::Known(Kind::Compound(Shape::List, false)),
+        21 => Code::Known(Kind::Compound(Shape::List, true)),
+        22 => Code::Known(Kind::Compound(Shape::Map, false)),
+        23 => Code::Known(Kind::Compound(Shape::Map, true)),
+        24 => Code::Known(Kind::Compound(Shape::Array, false)),
+        25 => Code::Known(Kind::Compound(Shape::Array, true)),
+        _ => Code::Unknown,
+    }
+}
+
+// How many bytes a size or a count has.
+fn width(wide: bool) -> usize
+    ensures { λ r. ⌜ r ≡ widthOf wide ⌝ }
+{
+    if wide { 4 } else { 1 }
+}
+
+// The size or the count at the front.
+fn number_at(s: &[u8], wide: bool) -> Number
+    ensures { λ r. ⌜ numberSaid r ≡ numberIn (widthOf wide) (now (s .entry)) ⌝ }
+{
+    let w = width(wide);
+    if s.len() < w {
+        return Number::Short;
+    }
+    let n = octets::number(&s[..w]) as u32;
+    Number::Is(n)
+}
+
+// A map has a value to each key.
+fn paired(shape: Shape, count: u32) -> bool
+    ensures { λ r. ⌜ r ≡ pairedIn (shapeSaid shape) count ⌝ }
+{
+    match shape {
+        Shape::List => true,
+        Shape::Map => count % 2 == 0,
+        Shape::Array => true,
+    }
+}
+
+// The size and the count of a compound that has as many bytes as its size says.
+fn open_compound(s: &[u8], shape: Shape, wide: bool) -> Opening
+    ensures { λ r. ⌜ openingSaid r ≡ opening (shapeSaid shape) (widthOf wide) (now (s .entry)) ⌝ }
+{
+    let Number::Is(size) = number_at(s, wide) else {
+        return Opening::Malformed;
+    };
+    let w = width(wide);
+    let end = w + (size as usize);
+    if s.len() < end {
+        return Opening::Malformed;
+    }
+    let Number::Is(count) = number_at(&s[w..end], wide) else {
+        return Opening::Malformed;
+    };
+    if paired(shape, count) {
+        Opening::Counted { size, count }
+    } else {
+        Opening::Malformed
+    }
+}
+
+// A body of n bytes.
+fn bytes(s: &[u8], n: usize) -> Value
+    ensures { λ r. ⌜ ended r ≡ bytes n (now (s .entry)) ⌝ }
+{
+    if n <= s.len() {
+        Value::End(n)
+    } else {
+        Value::Malformed
+    }
+}
+
+// A byte that is 00 or 01.
+fn boolean(s: &[u8]) -> Value
+    ensures { λ r. ⌜ ended r ≡ booleanEnd (now (s .entry)) ⌝ }
+{
+    if s.len() == 0 {
+        return Value::Malformed;
+    }
+    if s[0] <= 1 {
+        Value::End(1)
+    } else {
+        Value::Malformed
+    }
+}
+
+// A size, and as many bytes.
+fn variable(s: &[u8], wide: bool) -> Value
+    ensures { λ r. ⌜ ended r ≡ variableEnd (widthOf wide) (now (s .entry)) ⌝ }
+{
+    let Number::Is(size) = number_at(s, wide) else {
+        return Value::Malformed;
+    };
+    bytes(s, width(wide) + (size as usize))
+}
+
+// A constructor, and as many bodies of it as `count` says: a value is a constructor with one body. It stands at the first of `depth` levels; a value that
+// describes, and what is described or stands in a compound, at the next.
+fn constructor(s: &[u8], depth: u8, count: u32) -> Value
+    ensures { λ r. ⌜ ended r ≡ run depth count (now (s .entry)) ⌝ }
+{
+    if depth == 0 {
+        return Value::Malformed;
+    }
+    if s.len() == 0 {
+        return Value::Malformed;
+    }
+    let inner = depth - 1;
+    let c = s[0];
+    if c == 0 {
+        let Value::End(n) = constructor(&s[1..], inner, 1) else {
+            return Value::Malformed;
+        };
+        let next = 1 + n;
+        let Value::End(m) = constructor(&s[next..], inner, count) else {
+            return Value::Malformed;
+        };
+        let end = next + m;
+        return Value::End(end);
+    }
+    let Code::Known(kind) = code_of(c) else {
+        return Value::Malformed;
+    };
+    let Value::End(n) = bodies(&s[1..], inner, count, kind) else {
+        return Value::Malformed;
+    };
+    let end = 1 + n;
+    Value::End(end)
+}
+
+// As many bodies of one kind as `count` says, one after the other. Those of a fixed width are not counted one by one: a count may claim
+// any number of bodies that take no bytes.
+fn bodies(s: &[u8], depth: u8, count: u32, kind: Kind) -> Value
+    ensures { λ r. ⌜ ended r ≡ times count (body (run depth) (kindSaid kind)) (now (s .entry)) ⌝ }
+{
+    if let Kind::Fixed(w) = kind {
+        return bytes(s, (count as usize) * (w as usize));
+    }
+    let mut at: usize = 0;
+    let mut i: u32 = 0;
+    while i < count {
+        let Value::End(n) = body(&s[at..], depth, kind) else {
+            return Value::Malformed;
+        };
+        at += n;
+        i += 1;
+    }
+    Value::End(at)
+}
+
+// One body of a kind.
+fn body(s: &[u8], depth: u8, kind: Kind) -> Value
+    ensures { λ r. ⌜ ended r ≡ body (run depth) (kindSaid kind) (now (s .entry)) ⌝ }
+{
+    match kind {
+        Kind::Fixed(w) => bytes(s, w as usize),
+        Kind::Boolean => boolean(s),
+        Kind::Variable(wide) => variable(s, wide),
+        Kind::Compound(shape, wide) => compound(s, depth, shape, wide),
+    }
+}
+
+// A size, a count, and as many items as the count says, which have to fill the size.
+fn compound(s: &[u8], depth: u8, shape: Shape, wide: bool) -> Value
+    ensures { λ r. ⌜ ended r ≡ compoundEnd (run depth) (shapeSaid shape) (widthOf wide) (now (s .entry)) ⌝ }
+{
+    let Opening::Counted { size, count } = open_compound(s, shape, wide) else {
+        return Value::Malformed;
+    };
+    let w = width(wide);
+    let from = w + w;
+    let end = w + (size as usize);
+    let Value::End(n) = items(&s[from..end], depth, shape, count) else {
+        return Value::Malformed;
+    };
+    if from + n == end {
+        Value::End(end)
+    } else {
+        Value::Malformed
+    }
+}
+
+// As many values as `count` says, one after the other; of an array, one constructor with as many bodies.
+fn items(s: &[u8], depth: u8, shape: Shape, count: u32) -> Value
+    ensures { λ r. ⌜ ended r ≡ items (run depth) (shapeSaid shape) count (now (s .entry)) ⌝ }
+{
+    if let Shape::Array = shape {
+        return constructor(s, depth, count);
+    }
+    let mut at: usize = 0;
+    let mut i: u32 = 0;
+    while i < count {
+        let Value::End(n) = constructor(&s[at..], depth, 1) else {
+            return Value::Malformed;
+        };
+        at += n;
+        i += 1;
+    }
+    Value::End(at)
+}
+
+// The value that `s` starts with, which stands at the first of `depth` levels. What stands inside a list, map, array or described value is a level deeper.
+pub fn value_end(s: &[u8], depth: u8) -> Value
+    ensures { λ r. ⌜ ended r ≡ valueEnd depth (now (s .entry)) ⌝ }
+{
+    constructor(s, depth, 1)
+}
