@@ -1,6 +1,6 @@
 -- The fields of the performatives: Part 2, sections 2.7.1 to 2.7.9 and 2.8.14, with the types that document 01 has checked.
 -- Assumes nothing: these are definitions.
-use Prim.Native.Nat.{ℕ, _+_}
+use Prim.Native.Nat.{ℕ, zero, suc}
 use mathlib.Core.Bool.{Bool, true, false, cond}
 use mathlib.Core.List.{List, [], _∷_, _++_}
 use mathlib.Core.Option.{Option, none, some}
@@ -46,3 +46,16 @@ fieldsIn (row ∷ rows) code = cond (eqb code (row .0)) (some (row .1)) (fieldsI
 -- the fields of the performative with this descriptor; none where it is no performative's
 unfoldable pub fieldsOf : ℕ → Option (List Field)
 fieldsOf code = fieldsIn performatives code
+
+unfoldable pub fieldIn : List Field → ℕ → Option Field
+fieldIn [] i = none
+fieldIn (r ∷ rows) zero = some r
+fieldIn (r ∷ rows) (suc i) = fieldIn rows i
+
+unfoldable pub fieldOf : Option (List Field) → ℕ → Option Field
+fieldOf none i = none
+fieldOf (some rows) i = fieldIn rows i
+
+-- the i-th field of the performative with this descriptor, if there is one
+unfoldable pub fieldAt : ℕ → ℕ → Option Field
+fieldAt code i = fieldOf (fieldsOf code) i

@@ -7,20 +7,12 @@ use mathlib.Core.Option.{Option, none, some}
 use lib.ListN.{length, take, drop, getD}
 use lib.Dec.{leb, eqb}
 use Rattle.octets.specs.Verdict.{Verdict, refuse, accept, require, andThen, accepts}
-use Rattle.octets.specs.Octets.{bigEndian}
-use Rattle.values.specs.Value.{valueEnd}
+use Rattle.octets.specs.Octets.{bigEndian, startsWith}
+use Rattle.values.specs.Value.{list, opening, valueEnd}
+use Rattle.values.specs.Null.{null, isNull}
 use Rattle.performatives.specs.Fields.{FieldType, Any, UShort, UInt, String, Error, Field, fieldsOf}
 
 -- ---- a described list
-
-abbrev pub isIn : List ℕ → ℕ → Bool
-isIn [] c = false
-isIn (d ∷ ds) c = eqb c d || isIn ds c
-
--- whether s starts with one of these codes
-unfoldable pub startsWith : List ℕ → List ℕ → Bool
-startsWith codes [] = false
-startsWith codes (c ∷ s) = isIn codes c
 
 -- the number of a value of type ubyte, ushort, uint or ulong: what stands after its code
 unfoldable pub numberOf : List ℕ → ℕ
@@ -32,12 +24,9 @@ pub record Items : Type 0 where
   pub from : ℕ
   pub end : ℕ
 
--- a size, which counts the count and the values, and a count, of w bytes each
+-- after the code a size and a count of w bytes each
 unfoldable pub sized : ℕ → List ℕ → Verdict Items
-sized w s =
-    require 6 (leb (1 + 2 * w) (length s)) (λ _.
-    require 6 (leb w (bigEndian (take w (drop 1 s))) && leb (1 + w + bigEndian (take w (drop 1 s))) (length s)) (λ _.
-    accept (record { count = bigEndian (take w (drop (1 + w) s)); from = 1 + 2 * w; end = 1 + w + bigEndian (take w (drop 1 s)) })))
+sized w s = andThen (opening list w (drop 1 s)) (λ o. accept (record { count = o .1; from = 1 + w + w; end = 1 + w + o .0 }))
 
 unfoldable pub listAt : List ℕ → Verdict Items
 listAt s =
@@ -46,22 +35,28 @@ listAt s =
     (cond (startsWith (0xd0 ∷ []) s) (sized 4 s)
     (refuse 6)))
 
+-- 00 and a ulong, which names a type: its number, and where it ends
+unfoldable pub descriptor : List ℕ → Verdict (ℕ × ℕ)
+descriptor s =
+    require 6 (startsWith (0 ∷ []) s && startsWith (0x80 ∷ 0x53 ∷ 0x44 ∷ []) (drop 1 s)) (λ _.
+    andThen (valueEnd 1 (drop 1 s)) (λ n.
+    accept (numberOf (take n (drop 1 s)), 1 + n)))
+
 pub record Described : Type 0 where
   pub code : ℕ
   pub count : ℕ
   pub from : ℕ
   pub end : ℕ
 
-abbrev pub described-by : ℕ → ℕ → Items → Described
-described-by code n l = record { code = code; count = l .count; from = n + l .from; end = n + l .end }
+abbrev pub described-by : ℕ × ℕ → Items → Described
+described-by d l = record { code = d .0; count = l .count; from = d .1 + l .from; end = d .1 + l .end }
 
--- 00, a ulong that names the type, and a list: its number, and the list's values by their places in s
+-- a descriptor and a list: the descriptor's number, and the list's values by their places in s
 unfoldable pub described : List ℕ → Verdict Described
 described s =
-    require 6 (startsWith (0 ∷ []) s && startsWith (0x80 ∷ 0x53 ∷ 0x44 ∷ []) (drop 1 s)) (λ _.
-    andThen (valueEnd 1 (drop 1 s)) (λ n.
-    andThen (listAt (drop (1 + n) s)) (λ l.
-    accept (described-by (numberOf (take n (drop 1 s))) (1 + n) l))))
+    andThen (descriptor s) (λ d.
+    andThen (listAt (drop (d .1) s)) (λ l.
+    accept (described-by d l)))
 
 -- the values of a list, one after the other, at most d levels deep; they fill it
 unfoldable pub split : ℕ → ℕ → List ℕ → Verdict (List (List ℕ))
@@ -76,12 +71,6 @@ abbrev pub itemsOf : Described → List ℕ → List ℕ
 itemsOf d s = take (d .end - d .from) (drop (d .from) s)
 
 -- ---- fields
-
-abbrev pub null : List ℕ
-null = 0x40 ∷ []
-
-abbrev pub isNull : List ℕ → Bool
-isNull f = startsWith (0x40 ∷ []) f
 
 -- descriptor 29 with one to three fields, the first a symbol
 unfoldable pub errorShape : List ℕ → Verdict Described → Bool
@@ -99,15 +88,19 @@ hasType UInt f = startsWith (0x70 ∷ 0x52 ∷ 0x43 ∷ []) f
 hasType String f = startsWith (0xa1 ∷ 0xb1 ∷ []) f
 hasType Error f = isError f
 
-unfoldable pub fits : Field → List ℕ → Bool
-fits r f = cond (isNull f) (not (r .mandatory)) (hasType (r .type) f)
+unfoldable pub fits : FieldType → Bool → List ℕ → Bool
+fits t mandatory f = cond (isNull f) (not mandatory) (hasType t f)
 
 -- every field by its row; those that are missing are null, and there are no more than the rows
 unfoldable pub fit : List Field → List (List ℕ) → Bool
 fit [] [] = true
 fit [] (f ∷ fs) = false
-fit (r ∷ rows) [] = fits r null && fit rows []
-fit (r ∷ rows) (f ∷ fs) = fits r f && fit rows fs
+fit (r ∷ rows) [] = fits (r .type) (r .mandatory) null && fit rows []
+fit (r ∷ rows) (f ∷ fs) = fits (r .type) (r .mandatory) f && fit rows fs
+
+-- the fields in the bytes of a list, by their rows
+unfoldable pub fieldsBy : List Field → ℕ → List ℕ → Verdict (List (List ℕ))
+fieldsBy rows count s = andThen (split 16 count s) (λ fs. require 6 (fit rows fs) (λ _. accept fs))
 
 -- ---- a performative
 
@@ -122,14 +115,16 @@ unfoldable pub rowsFor : Option (List Field) → Verdict (List Field)
 rowsFor none = refuse 6
 rowsFor (some rows) = accept rows
 
+-- the performative whose fields are the bytes of a described list
+unfoldable pub performativeBy : Described → List ℕ → Verdict Performative
+performativeBy d items =
+    andThen (rowsFor (fieldsOf (d .code))) (λ rows.
+    andThen (fieldsBy rows (d .count) items) (λ fs.
+    accept (record { code = d .code; fields = fs; from = d .from; end = d .end })))
+
 -- at the front of s; what stands after it is not looked at
 unfoldable pub performative : List ℕ → Verdict Performative
-performative s =
-    andThen (described s) (λ d.
-    andThen (rowsFor (fieldsOf (d .code))) (λ rows.
-    andThen (split 16 (d .count) (itemsOf d s)) (λ fs.
-    require 6 (fit rows fs) (λ _.
-    accept (record { code = d .code; fields = fs; from = d .from; end = d .end })))))
+performative s = andThen (described s) (λ d. performativeBy d (itemsOf d s))
 
 -- ---- what the fields say
 
@@ -167,7 +162,7 @@ startOf (suc i) (f ∷ fs) = length f + startOf i fs
 -- the bytes of a symbol or a string at the front of s: where they begin and how many there are
 abbrev pub textAt : ℕ → List ℕ → List ℕ
 textAt at s =
-    cond (startsWith (0xa1 ∷ 0xa3 ∷ []) s) (at + 2 ∷ bigEndian (take 1 (drop 1 s)) ∷ []) (at + 5 ∷ bigEndian (take 4 (drop 1 s)) ∷ [])
+    cond (startsWith (0xa1 ∷ 0xa3 ∷ []) s) ((at + 2) ∷ bigEndian (take 1 (drop 1 s)) ∷ []) ((at + 5) ∷ bigEndian (take 4 (drop 1 s)) ∷ [])
 
 -- the place of an error's condition, whose field begins at `at`
 unfoldable pub conditionAt : ℕ → List ℕ → Verdict Described → List ℕ
@@ -201,3 +196,6 @@ valuesOf =
 
 abbrev pub said : Performative → Said
 said p = record { code = p .code; end = p .end; values = valuesOf p }
+
+unfoldable pub performativeSaid : List ℕ → Verdict Said
+performativeSaid s = andThen (performative s) (λ p. accept (said p))

@@ -1,0 +1,5 @@
+-- What the proofs of several functions, and of the crates above, use.
+pub mod Laws
+pub mod Steps
+pub mod Apart
+pub mod Examples

@@ -1,0 +1,163 @@
+-- The code's table says of each field what the list of performatives says: a test that antt computes over all 126 places.
+-- Assumes nothing.
+use mathlib.Core.Path.{_≡_, refl, sym, ap, _∙_}
+use mathlib.Core.List.{List, [], _∷_, map}
+use mathlib.Core.Bool.{Bool, true, false, cond, _&&_}
+use mathlib.Core.Option.{Option, none, some}
+use Prim.Native.Nat.{ℕ, zero, suc, _+_, _*_, _-_, _/_, _%_, _<_, _≤_}
+use native.Mathlib.Nat.{add-suc, suc-add, add-zero, zero-add}
+use native.Mathlib.Omega.{arith}
+use lib.Dec.{leb, eqb}
+use lib.ListN.{length, getD, List·getD-map}
+use borrow.Author.Tests.{ne-eqb, leb-true}
+use Rattle.performatives.proofs.Bools.{and-first, and-second}
+use Rattle.performatives.specs.Fields.{Field, Any, UShort, UInt, String, Error, may, must, defaults, performatives, fieldsIn, fieldsOf, fieldIn, fieldOf, fieldAt}
+
+abbrev pub rows : List ℕ
+rows =
+    2 ∷ 3 ∷ 4 ∷ 5 ∷ 6 ∷ 1 ∷ 1 ∷ 1 ∷ 1 ∷ 1 ∷ 0 ∷ 0 ∷ 0 ∷ 0 ∷
+    7 ∷ 8 ∷ 8 ∷ 8 ∷ 4 ∷ 1 ∷ 1 ∷ 1 ∷ 0 ∷ 0 ∷ 0 ∷ 0 ∷ 0 ∷ 0 ∷
+    1 ∷ 1 ∷ 1 ∷ 1 ∷ 1 ∷ 1 ∷ 1 ∷ 1 ∷ 1 ∷ 1 ∷ 1 ∷ 1 ∷ 1 ∷ 1 ∷
+    1 ∷ 1 ∷ 1 ∷ 1 ∷ 1 ∷ 1 ∷ 1 ∷ 1 ∷ 1 ∷ 1 ∷ 1 ∷ 0 ∷ 0 ∷ 0 ∷
+    1 ∷ 1 ∷ 1 ∷ 1 ∷ 1 ∷ 1 ∷ 1 ∷ 1 ∷ 1 ∷ 1 ∷ 1 ∷ 0 ∷ 0 ∷ 0 ∷
+    1 ∷ 1 ∷ 1 ∷ 1 ∷ 1 ∷ 1 ∷ 0 ∷ 0 ∷ 0 ∷ 0 ∷ 0 ∷ 0 ∷ 0 ∷ 0 ∷
+    1 ∷ 1 ∷ 9 ∷ 0 ∷ 0 ∷ 0 ∷ 0 ∷ 0 ∷ 0 ∷ 0 ∷ 0 ∷ 0 ∷ 0 ∷ 0 ∷
+    9 ∷ 0 ∷ 0 ∷ 0 ∷ 0 ∷ 0 ∷ 0 ∷ 0 ∷ 0 ∷ 0 ∷ 0 ∷ 0 ∷ 0 ∷ 0 ∷
+    9 ∷ 0 ∷ 0 ∷ 0 ∷ 0 ∷ 0 ∷ 0 ∷ 0 ∷ 0 ∷ 0 ∷ 0 ∷ 0 ∷ 0 ∷ 0 ∷ []
+
+unfoldable pub rowIn : List (ℕ × Field) → ℕ → Option Field
+rowIn [] n = none
+rowIn (r ∷ rs) n = cond (eqb n (r .0)) (some (r .1)) (rowIn rs n)
+
+-- the row that stands for a number of the table
+unfoldable pub rowNamed : ℕ → Option Field
+rowNamed n =
+    rowIn
+    ((1, may Any) ∷ (2, must String) ∷ (3, may String) ∷ (4, defaults UInt 4294967295) ∷ (5, defaults UShort 65535)
+    ∷ (6, may UInt) ∷ (7, may UShort) ∷ (8, must UInt) ∷ (9, may Error) ∷ [])
+    n
+
+placed : ℕ → Option Field
+placed k = fieldAt (16 + k / 14) (k % 14)
+
+upFrom : ℕ → ℕ → List ℕ
+upFrom i zero = []
+upFrom i (suc n) = i ∷ upFrom (suc i) n
+
+at-up : (n i k : ℕ) → k < n → getD (upFrom i n) k 0 ≡ i + k
+unfolding upFrom
+at-up zero i k h = absurd (omega arith)
+at-up (suc n) i zero h = sym (add-zero i)
+at-up (suc n) i (suc k) h = at-up n (suc i) k (omega arith) ∙ suc-add i k ∙ sym (add-suc i k)
+
+up-length : length (map placed (upFrom 0 126)) ≡ 126
+unfolding upFrom
+up-length = refl
+
+all-right : map rowNamed rows ≡ map placed (upFrom 0 126)
+unfolding upFrom rowIn rowNamed placed fieldAt fieldOf fieldIn fieldsOf fieldsIn
+all-right = refl
+
+default : (l : List (Option Field)) (i : ℕ) (a b : Option Field) → i < length l → getD l i a ≡ getD l i b
+default [] i a b h = absurd (omega arith)
+default (x ∷ l) zero a b h = refl
+default (x ∷ l) (suc i) a b h = default l i a b (omega arith)
+
+table-right : (k : ℕ) → k < 126 → rowNamed (getD rows k 0) ≡ placed k
+table-right k h =
+    sym (List·getD-map rowNamed rows k 0)
+    ∙ ap (λ (l : List (Option Field)). getD l k (rowNamed 0)) all-right
+    ∙ default (map placed (upFrom 0 126)) k (rowNamed 0) (placed 0) (let l : length (map placed (upFrom 0 126)) ≡ 126 = up-length in omega arith)
+    ∙ List·getD-map placed (upFrom 0 126) k 0
+    ∙ ap placed (at-up 126 0 k h ∙ zero-add k)
+
+-- an entry that is n
+pub entry : (code i n : ℕ) (v : Option Field) → 16 ≤ code → code ≤ 24 → i < 14 → getD rows ((code - 16) * 14 + i) 0 ≡ n → v ≡ rowNamed n → v ≡ fieldAt code i
+unfolding placed
+entry code i n v l h j e q =
+    let k : (code - 16) * 14 + i < 126 = omega arith in
+    let a : 16 + ((code - 16) * 14 + i) / 14 ≡ code = omega arith in
+    let b : ((code - 16) * 14 + i) % 14 ≡ i = omega arith in
+    q ∙ ap rowNamed (sym e) ∙ table-right ((code - 16) * 14 + i) k ∙ rw (a, b)
+
+-- the last arm of the match
+pub named-else : (n : ℕ) → (n ≡ 1 → ⊥) → (n ≡ 2 → ⊥) → (n ≡ 3 → ⊥) → (n ≡ 4 → ⊥) → (n ≡ 5 → ⊥) → (n ≡ 6 → ⊥) → (n ≡ 7 → ⊥) → (n ≡ 8 → ⊥) → (n ≡ 9 → ⊥) → none ≡ rowNamed n
+unfolding rowNamed rowIn
+named-else n h1 h2 h3 h4 h5 h6 h7 h8 h9 =
+    rw (ne-eqb n 1 h1, ne-eqb n 2 h2, ne-eqb n 3 h3, ne-eqb n 4 h4, ne-eqb n 5 h5, ne-eqb n 6 h6, ne-eqb n 7 h7, ne-eqb n 8 h8, ne-eqb n 9 h9)
+
+-- ---- what lies outside the table: the descriptors are 16 to 24, and no performative has more than fourteen fields
+
+low : ℕ × List Field → Bool
+low p = leb 16 (p .0)
+
+high : ℕ × List Field → Bool
+high p = leb (p .0) 24
+
+few : ℕ × List Field → Bool
+few p = leb (length (p .1)) 14
+
+inTable : List (ℕ × List Field) → Bool
+inTable [] = true
+inTable (p ∷ ps) = low p && (high p && (few p && inTable ps))
+
+module _ (p : ℕ × List Field) (ps : List (ℕ × List Field)) (h : inTable (p ∷ ps) ≡ true) where
+  is-low : 16 ≤ p .0
+  unfolding inTable low
+  is-low = leb-true _ _ (and-first (low p) _ h)
+
+  is-high : p .0 ≤ 24
+  unfolding inTable high
+  is-high = leb-true _ _ (and-first (high p) _ (and-second (low p) _ h))
+
+  is-few : length (p .1) ≤ 14
+  unfolding inTable few
+  is-few = leb-true _ _ (and-first (few p) _ (and-second (high p) _ (and-second (low p) _ h)))
+
+  others : inTable ps ≡ true
+  unfolding inTable
+  others = and-second (few p) _ (and-second (high p) _ (and-second (low p) _ h))
+
+none-in : (code : ℕ) → (16 ≤ code → code ≤ 24 → ⊥) → (ps : List (ℕ × List Field)) → inTable ps ≡ true → fieldsIn ps code ≡ none
+unfolding fieldsIn
+none-in code out [] h = refl
+none-in code out (p ∷ ps) h =
+    let l = is-low p ps h in
+    let m = is-high p ps h in
+    rw (ne-eqb code (p .0) (λ e. out (omega arith) (omega arith))) (none-in code out ps (others p ps h))
+
+past : (rs : List Field) (i : ℕ) → length rs ≤ i → fieldIn rs i ≡ none
+unfolding fieldIn
+past [] i h = refl
+past (r ∷ rs) zero h = absurd (omega arith)
+past (r ∷ rs) (suc i) h = past rs i (omega arith)
+
+past-in : (code i : ℕ) → 14 ≤ i → (ps : List (ℕ × List Field)) → inTable ps ≡ true → fieldOf (fieldsIn ps code) i ≡ none
+unfolding fieldsIn fieldOf
+past-in code i l [] h = refl
+past-in code i l (p ∷ ps) h = go (eqb code (p .0)) (past-in code i l ps (others p ps h))
+  where
+    go : (b : Bool) → fieldOf (fieldsIn ps code) i ≡ none → fieldOf (cond b (some (p .1)) (fieldsIn ps code)) i ≡ none
+    go true e = let m = is-few p ps h in past (p .1) i (omega arith)
+    go false e = e
+
+tested : inTable performatives ≡ true
+unfolding inTable low high few
+tested = refl
+
+-- no performative has this descriptor
+pub unknown : (code : ℕ) → (16 ≤ code → code ≤ 24 → ⊥) → fieldsOf code ≡ none
+unfolding fieldsOf
+unknown code out = none-in code out performatives tested
+
+pub row-below : (code i : ℕ) → code < 16 → none ≡ fieldAt code i
+unfolding fieldAt fieldOf
+row-below code i h = rw (unknown code (λ l m. omega arith))
+
+pub row-above : (code i : ℕ) → 24 < code → none ≡ fieldAt code i
+unfolding fieldAt fieldOf
+row-above code i h = rw (unknown code (λ l m. omega arith))
+
+pub row-past : (code i : ℕ) → 14 ≤ i → none ≡ fieldAt code i
+unfolding fieldAt fieldsOf
+row-past code i h = sym (past-in code i h performatives tested)
