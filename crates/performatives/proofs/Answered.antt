@@ -1,26 +1,35 @@
 -- The answer by the fields: those that are found are those that the definition splits off, and each has its row's type.
 -- Assumes nothing.
 use mathlib.Core.Path.{_≡_, refl, sym, ap, _∙_, subst}
-use mathlib.Core.Bool.{Bool, true, false, cond, not, _&&_}
-use mathlib.Core.List.{List, [], _∷_, _++_}
-use mathlib.Core.Option.{Option, none, some}
-use Prim.Native.Nat.{ℕ, zero, suc, _+_, _-_, _^_, _<_, _≤_}
+use mathlib.Core.Bool.{Bool, true, false, cond, not}
+use mathlib.Core.List.{List, [], _∷_}
+use mathlib.Core.Option.{some}
+use Prim.Native.Nat.{ℕ, zero, suc, _+_, _≤_}
 use native.Mathlib.Omega.{arith}
-use lib.ListN.{length, take, drop, getD, length-take, length-drop}
+use lib.ListN.{length, take, drop, getD}
 use lib.Seq.{drop-drop, drop-nil, length-take-le}
-use Rattle.octets.specs.Verdict.{Verdict, refuse, accept, require, andThen, accepts}
+use Rattle.octets.specs.Verdict.{refuse, accept}
 use Rattle.octets.specs.Octets.{startsWith}
 use Rattle.octets.proofs.Laws.{require-was}
 use Rattle.values.specs.Value.{codes, kindIn, kindOf, level, run, valueEnd}
 use Rattle.values.specs.Null.{null, isNull}
 use Rattle.values.proofs.Apart.{accepted, then-was}
-use Rattle.values.proofs.Laws.{value-within, value-some, value-six}
-use Rattle.performatives.specs.Fields.{FieldType, UShort, UInt, Error, Field, fieldIn}
+use Rattle.values.proofs.Laws.{value-within, value-some}
+use Rattle.performatives.specs.Fields.{UShort, UInt, Field, fieldIn}
 use Rattle.performatives.specs.Performative.{hasType, fits, fit, split, fieldsBy, startOf}
-use Rattle.performatives.specs.Answers.{past, skip, front, item, orNull, valueAt}
+use Rattle.performatives.specs.Inner.{skip, item, orNull, valueAt}
 use Rattle.performatives.proofs.Bools.{and-first, and-second}
 use Rattle.performatives.proofs.Codes.{narrow, widthBelow, narrow-ends}
 use Rattle.performatives.proofs.Placed.{item-whole}
+
+-- fields that fit are split off
+pub fields-were : (rows : List Field) (count : ℕ) (s : List ℕ) (fs : List (List ℕ)) → fieldsBy rows count s ≡ accept fs → (split 16 count s ≡ accept fs) × (fit rows fs ≡ true)
+unfolding fieldsBy
+fields-were rows count s fs e =
+    let v = then-was (split 16 count s) _ fs e in
+    let w = require-was 6 (fit rows (v .0)) _ fs (v .2) in
+    let q : v .0 ≡ fs = accepted (v .0) fs (w .1) in
+    (v .1 ∙ ap accept q, ap (fit rows) (sym q) ∙ w .0)
 
 -- ---- one value split off
 

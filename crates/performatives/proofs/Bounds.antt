@@ -1,22 +1,22 @@
 -- Where what is read lies, and with what it is refused.
 -- Assumes nothing.
-use mathlib.Core.Path.{_≡_, refl, sym, ap, _∙_, subst}
+use mathlib.Core.Path.{_≡_, refl, sym, _∙_}
 use mathlib.Core.Bool.{Bool, true, false, cond, _&&_}
 use mathlib.Core.List.{List, [], _∷_}
 use mathlib.Core.Option.{Option, none, some}
-use Prim.Native.Nat.{ℕ, zero, suc, _+_, _-_, _<_, _≤_}
+use Prim.Native.Nat.{ℕ, zero, suc, _+_, _≤_}
 use native.Mathlib.Omega.{arith}
-use lib.ListN.{length, take, drop, length-take, length-drop}
+use lib.ListN.{length, take, drop, length-drop}
 use Rattle.octets.specs.Verdict.{Verdict, refuse, accept, require, andThen}
-use Rattle.octets.specs.Octets.{bigEndian, startsWith}
+use Rattle.octets.specs.Octets.{startsWith}
 use Rattle.octets.proofs.Laws.{require-was}
 use Rattle.values.specs.Value.{list, opening, valueEnd}
-use Rattle.values.proofs.Bounds.{Holds, Opens, holds-accept, holds-refuse, opening-holds}
+use Rattle.values.proofs.Bounds.{Opens, holds-accept, holds-refuse, opening-holds}
 use Rattle.values.proofs.Apart.{accepted, then-was}
 use Rattle.values.proofs.Laws.{value-within, value-some, value-six}
 use Rattle.performatives.specs.Fields.{Field, fieldsOf}
-use Rattle.performatives.specs.Performative.{Items, numberOf, sized, listAt, descriptor, Described, described, described-by, itemsOf, split, fit, fieldsBy, rowsFor, Performative, performativeBy, performative}
-use Rattle.performatives.proofs.Bools.{and-first, and-second}
+use Rattle.performatives.specs.Performative.{Items, numberOf, sized, listAt, descriptor, Described, described, described-by, itemsOf, split, fit, fieldsBy, rowsFor, performativeBy, performative}
+use Rattle.performatives.proofs.Bools.{and-first}
 use Rattle.performatives.proofs.Codes.{starts-some}
 
 -- ---- where the values of a list lie
@@ -45,6 +45,24 @@ list-lies s l = go (startsWith (0x45 ∷ []) s) (startsWith (0xc0 ∷ []) s) (st
     go false false true h e = sized-lies 4 s l (omega arith) e
     go false false false h e = let z : _≡_ {A = ℕ} 0 1 = cc in absurd (omega arith)
 
+sized-some : (w : ℕ) (s : List ℕ) (l : Items) → sized w s ≡ accept l → 1 ≤ l .from
+unfolding sized
+sized-some w s l e =
+    let a = then-was (opening list w (drop 1 s)) _ l e in
+    let q : l ≡ record { count = a .0 .1; from = 1 + w + w; end = 1 + w + a .0 .0 } = sym (accepted _ l (a .2)) in
+    rw q (omega arith)
+
+-- after a format code
+pub list-some : (s : List ℕ) (l : Items) → listAt s ≡ accept l → 1 ≤ l .from
+unfolding listAt
+list-some s l = go (startsWith (0x45 ∷ []) s) (startsWith (0xc0 ∷ []) s) (startsWith (0xd0 ∷ []) s)
+  where
+    go : (a b c : Bool) → cond a (accept (record { count = 0; from = 1; end = 1 })) (cond b (sized 1 s) (cond c (sized 4 s) (refuse 6))) ≡ accept l → 1 ≤ l .from
+    go true b c e = let q : l ≡ record { count = 0; from = 1; end = 1 } = sym (accepted _ l e) in rw q (omega arith)
+    go false true c e = sized-some 1 s l e
+    go false false true e = sized-some 4 s l e
+    go false false false e = let z : _≡_ {A = ℕ} 0 1 = cc in absurd (omega arith)
+
 pub descriptor-lies : (s : List ℕ) (d : ℕ × ℕ) → descriptor s ≡ accept d → Lies s 2 (d .1)
 unfolding descriptor
 descriptor-lies s d e =
@@ -71,23 +89,23 @@ described-lies s d e =
 abbrev pub Six : {A : Type 0} → Verdict A → Type 0
 Six v = (k : ℕ) → v ≡ refuse k → k ≡ 6
 
-six-refuse : {A : Type 0} → Six {A = A} (refuse 6)
+pub six-refuse : {A : Type 0} → Six {A = A} (refuse 6)
 six-refuse k e = cc
 
-six-accept : {A : Type 0} (a : A) → Six (accept a)
+pub six-accept : {A : Type 0} (a : A) → Six (accept a)
 six-accept a k e = let z : _≡_ {A = ℕ} 0 1 = cc in absurd (omega arith)
 
-six-then : {A B : Type 0} (v : Verdict A) (f : A → Verdict B) → Six v → ((a : A) → Six (f a)) → Six (andThen v f)
+pub six-then : {A B : Type 0} (v : Verdict A) (f : A → Verdict B) → Six v → ((a : A) → Six (f a)) → Six (andThen v f)
 unfolding andThen
 six-then (refuse j) f h g k e = let q : j ≡ k = cc in sym q ∙ h j refl
 six-then (accept a) f h g k e = g a k e
 
-six-require : {A : Type 0} (b : Bool) (f : Unit {0} → Verdict A) → Six (f tt) → Six (require 6 b f)
+pub six-require : {A : Type 0} (b : Bool) (f : Unit {0} → Verdict A) → Six (f tt) → Six (require 6 b f)
 unfolding require
 six-require true f h k e = h k e
 six-require false f h k e = cc
 
-six-cond : {A : Type 0} (b : Bool) (u v : Verdict A) → Six u → Six v → Six (cond b u v)
+pub six-cond : {A : Type 0} (b : Bool) (u v : Verdict A) → Six u → Six v → Six (cond b u v)
 six-cond true u v h g = h
 six-cond false u v h g = g
 

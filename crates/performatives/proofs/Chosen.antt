@@ -1,26 +1,24 @@
 -- The performative that a descriptor and fields make: what each step of `performative_in` and `read` shows.
 -- Assumes nothing.
 use mathlib.Core.Path.{_≡_, refl, sym, ap, _∙_, subst}
-use mathlib.Core.Bool.{Bool, true, false, cond, not, _&&_}
+use mathlib.Core.Bool.{Bool, true, false}
 use mathlib.Core.List.{List, [], _∷_}
 use mathlib.Core.Option.{Option, none, some}
-use Prim.Native.Nat.{ℕ, zero, suc, _+_, _-_, _^_, _<_, _≤_}
+use Prim.Native.Nat.{ℕ, _+_, _-_, _^_, _<_, _≤_}
 use native.Mathlib.Omega.{arith}
 use lib.ListN.{length, take, drop, getD}
 use borrow.Author.Tests.{ne-eqb}
-use Rattle.octets.specs.Verdict.{Verdict, refuse, accept, require, andThen, accepts}
-use Rattle.octets.proofs.Laws.{require-was}
+use Rattle.octets.specs.Verdict.{Verdict, refuse, accept, andThen, accepts}
 use Rattle.values.specs.Null.{null, isNull}
-use Rattle.values.proofs.Apart.{accepted, then-was}
 use Rattle.performatives.specs.declared.Performative as C
 use Rattle.performatives.specs.declared.Described as D
 use Rattle.performatives.specs.declared.Described.the-variants.{List as IsDescribed, Malformed as NotDescribed}
-use Rattle.performatives.specs.Fields.{FieldType, UShort, UInt, Error, Field, may, defaults, fieldsIn, fieldsOf, fieldIn, fieldOf, fieldAt}
-use Rattle.performatives.specs.Performative.{numberOf, numberOr, Described, described, itemsOf, split, fit, fits, fieldsBy, rowsFor, Performative, performativeBy, performative, startOf, whenNot, conditionAt, condition, remoteChannel, Said, said, valuesIn, valuesOf, performativeSaid}
-use Rattle.performatives.specs.Answers.{describedSays, rowsIn, rowsFrom, skip, valueAt, performativeSays, openSays}
-use Rattle.performatives.proofs.Bounds.{described-lies, fields-six}
-use Rattle.performatives.proofs.Table.{unknown}
-use Rattle.performatives.proofs.Answered.{found-start, found-value, fit-at, uint-short, ushort-short}
+use Rattle.performatives.specs.Fields.{UShort, UInt, Error, Field, may, defaults, fieldsIn, fieldsOf, fieldIn, fieldOf, fieldAt}
+use Rattle.performatives.specs.Performative.{numberOf, Described, described, split, fit, fits, fieldsBy, rowsFor, Performative, performativeBy, performative, whenNot, conditionAt, condition, remoteChannel, Said, said, valuesIn, valuesOf, performativeSaid}
+use Rattle.performatives.specs.Answers.{describedSays, performativeSays}
+use Rattle.performatives.specs.Inner.{rowsIn, rowsFrom, skip, valueAt, openSays}
+use Rattle.performatives.proofs.Bounds.{fields-six}
+use Rattle.performatives.proofs.Answered.{fields-were, found-start, found-value, fit-at, uint-short, ushort-short}
 
 abbrev pub Out : ℕ → ℕ → ℕ → ℕ → List ℕ → Verdict Said
 Out code count from end s = andThen (performativeBy (record { code = code; count = count; from = from; end = end }) s) (λ p. accept (said p))
@@ -68,38 +66,24 @@ module _ (s : List ℕ) (code count from end : ℕ) where
     fielded : (fs : List (List ℕ)) × (fieldsBy (rowsFrom code 0) count s ≡ accept fs)
     fielded = taken (fieldsBy (rowsFrom code 0) count s) (sym p ∙ t)
 
-    splits : split 16 count s ≡ accept (fielded .0)
-    unfolding fieldsBy
-    splits =
-        let v = then-was (split 16 count s) _ (fielded .0) (fielded .1) in
-        let w = require-was 6 (fit (rowsFrom code 0) (v .0)) _ (fielded .0) (v .2) in
-        v .1 ∙ w .1
-
-    fitting : fit (rowsFrom code 0) (fielded .0) ≡ true
-    unfolding fieldsBy
-    fitting =
-        let v = then-was (split 16 count s) _ (fielded .0) (fielded .1) in
-        let w = require-was 6 (fit (rowsFrom code 0) (v .0)) _ (fielded .0) (v .2) in
-        let q : v .0 ≡ fielded .0 = accepted (v .0) (fielded .0) (w .1) in
-        ap (fit (rowsFrom code 0)) (sym q) ∙ w .0
+    splits : (split 16 count s ≡ accept (fielded .0)) × (fit (rowsFrom code 0) (fielded .0) ≡ true)
+    splits = fields-were (rowsFrom code 0) count s (fielded .0) (fielded .1)
 
     value-at : (i : ℕ) → valueAt i s ≡ getD (fielded .0) i null
-    value-at i = found-value i count s (fielded .0) splits
-
-    start-at : (i : ℕ) → skip i s ≡ startOf i (fielded .0)
-    start-at i = found-start i count s (fielded .0) splits
+    value-at i = found-value i count s (fielded .0) (splits .0)
 
     typed : (i : ℕ) (r : Field) → fieldAt code i ≡ some r → fits (r .type) (r .mandatory) (valueAt i s) ≡ true
     unfolding fieldAt rowsFrom
-    typed i r e = rw (value-at i) (fit-at (rowsIn (fieldsOf code)) (fielded .0) i r fitting (field-in (fieldsOf code) i r e))
+    typed i r e = rw (value-at i) (fit-at (rowsIn (fieldsOf code)) (fielded .0) i r (splits .1) (field-in (fieldsOf code) i r e))
 
     -- what the functions that answer ask of the fields
     pub open-given : code ≡ 16 → (length (valueAt 2 s) ≤ 5) × (length (valueAt 3 s) ≤ 3) × (length (valueAt 4 s) ≤ 5)
     unfolding fieldAt fieldOf fieldIn fieldsOf fieldsIn
-    open-given e =
-        (uint-short false 2 s (typed 2 (defaults UInt 4294967295) (rw e)),
-        ushort-short false 3 s (typed 3 (defaults UShort 65535) (rw e)),
-        uint-short false 4 s (typed 4 (may UInt) (rw e)))
+    open-given e = (
+      uint-short false 2 s (typed 2 (defaults UInt 4294967295) (rw e)),
+      ushort-short false 3 s (typed 3 (defaults UShort 65535) (rw e)),
+      uint-short false 4 s (typed 4 (may UInt) (rw e)),
+    )
 
     pub begin-given : code ≡ 17 → length (valueAt 0 s) ≤ 3
     unfolding fieldAt fieldOf fieldIn fieldsOf fieldsIn
@@ -112,7 +96,7 @@ module _ (s : List ℕ) (code count from end : ℕ) where
     pub arm : (k : ℕ) (vs : List ℕ) → code ≡ k → rowsFor (fieldsOf k) ≡ accept (rowsFrom k 0) → ((fs : List (List ℕ)) → split 16 count s ≡ accept fs → vs ≡ valuesOf (record { code = k; fields = fs; from = from; end = end })) → accept (record { code = k; end = end; values = vs }) ≡ Out code count from end s
     arm k vs e r h =
         let q : rowsFor (fieldsOf code) ≡ accept (rowsFrom code 0) = subst (λ (c : ℕ). rowsFor (fieldsOf c) ≡ accept (rowsFrom c 0)) (sym e) r in
-        named code k end from (fielded .0) vs e (h (fielded .0) splits) ∙ sym (made code count from end s (rowsFrom code 0) (fielded .0) q (fielded .1))
+        named code k end from (fielded .0) vs e (h (fielded .0) (splits .0)) ∙ sym (made code count from end s (rowsFrom code 0) (fielded .0) q (fielded .1))
 
 -- ---- what the fields say
 

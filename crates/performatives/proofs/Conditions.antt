@@ -3,21 +3,21 @@
 use mathlib.Core.Path.{_≡_, refl, sym, ap, _∙_, subst}
 use mathlib.Core.Bool.{Bool, true, false, cond, _||_, _&&_}
 use mathlib.Core.List.{List, [], _∷_}
-use Prim.Native.Nat.{ℕ, zero, suc, _+_, _-_, _<_, _≤_}
+use Prim.Native.Nat.{ℕ, zero, suc, _+_, _-_, _≤_}
 use native.Mathlib.Nat.{suc-add, zero-add}
 use native.Mathlib.Omega.{arith}
 use lib.ListN.{length, take, drop}
 use lib.Seq.{drop-drop}
 use lib.Dec.{eqb, leb}
 use borrow.Author.Tests.{eqb-true, leb-true}
-use Rattle.octets.specs.Verdict.{Verdict, refuse, accept, require, andThen}
-use Rattle.octets.specs.Octets.{bigEndian, isIn, startsWith}
+use Rattle.octets.specs.Verdict.{refuse, accept}
+use Rattle.octets.specs.Octets.{bigEndian, startsWith}
 use Rattle.octets.proofs.Laws.{require-was}
-use Rattle.values.specs.Value.{list, Kind, variable, compound, codes, kindIn, kindOf, followedBy, times, items, compoundEnd, body, opening, level, run, valueEnd}
+use Rattle.values.specs.Value.{list, compound, codes, kindIn, kindOf, followedBy, times, items, compoundEnd, body, opening, level, run, valueEnd}
 use Rattle.values.proofs.Apart.{accepted, then-was, plus-was, both-was, opening-is, compound-was}
 use Rattle.values.proofs.Laws.{value-deeper, value-of-code, value-variable, value-described}
 use Rattle.performatives.specs.Performative.{Items, sized, listAt, descriptor, Described, described-by, described, itemsOf, errorShape, isError}
-use Rattle.performatives.specs.Answers.{textFrom}
+use Rattle.performatives.specs.Inner.{textFrom}
 use Rattle.performatives.proofs.Bools.{and-first, and-second}
 
 -- ---- the first value of a list

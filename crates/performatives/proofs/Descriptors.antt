@@ -1,16 +1,16 @@
 -- Described lists: what each step of `descriptor_at` and `described_list` shows. `v` is the answer of a function that was called, with what that
 -- ensures and what it was opened as.
 -- Assumes nothing.
-use mathlib.Core.Path.{_≡_, refl, sym, ap, _∙_}
-use mathlib.Core.Bool.{Bool, true, false, _&&_}
+use mathlib.Core.Path.{_≡_, sym, ap, _∙_}
+use mathlib.Core.Bool.{Bool, true, false}
 use mathlib.Core.List.{List, [], _∷_}
-use Prim.Native.Nat.{ℕ, zero, suc, _+_, _*_, _-_, _^_, _<_, _≤_}
+use Prim.Native.Nat.{ℕ, _+_, _-_, _^_, _<_, _≤_}
 use native.Mathlib.Omega.{arith}
 use mir.Syntax.{w64}
 use mir.Val.{Fits}
 use lib.ListN.{length, take, drop, length-take, length-drop}
-use lib.Seq.{take-all, take-take, drop-drop, length-take-le}
-use Rattle.octets.specs.Verdict.{Verdict, refuse, accept, require, andThen}
+use lib.Seq.{take-all}
+use Rattle.octets.specs.Verdict.{refuse, accept, require, andThen}
 use Rattle.octets.specs.Octets.{bigEndian, startsWith}
 use Rattle.values.specs.Value.{valueEnd}
 use Rattle.values.specs.Answers.{ended}
@@ -22,9 +22,9 @@ use Rattle.performatives.specs.declared.Items as I
 use Rattle.performatives.specs.declared.Items.the-variants.{List as IsList, Malformed as NoList}
 use Rattle.performatives.specs.declared.Descriptor as D
 use Rattle.performatives.specs.declared.Descriptor.the-variants.{Ulong, Malformed as NoUlong}
-use Rattle.performatives.specs.Answers.{itemsSays, descriptorSays}
+use Rattle.performatives.specs.Inner.{itemsSays, descriptorSays}
 use Rattle.performatives.proofs.Bounds.{list-lies, descriptor-lies}
-use Rattle.performatives.specs.Performative.{Items, numberOf, listAt, descriptor, Described, described, described-by}
+use Rattle.performatives.specs.Performative.{Items, numberOf, listAt, descriptor, described}
 use Rattle.performatives.proofs.Parts.{drop-take}
 use Rattle.performatives.proofs.Codes.{starts-some, ulong-ends}
 

@@ -1,7 +1,7 @@
 -- The values of a list, found one after the other: what each step of `skip`, `item` and `is_null` shows.
 -- Assumes nothing.
 use mathlib.Core.Path.{_≡_, refl, sym, ap, _∙_}
-use mathlib.Core.Bool.{Bool, true, false}
+use mathlib.Core.Bool.{Bool, true}
 use mathlib.Core.List.{List, [], _∷_}
 use Prim.Native.Nat.{ℕ, zero, suc, _+_, _-_, _^_, _<_, _≤_}
 use native.Mathlib.Omega.{arith}
@@ -18,7 +18,7 @@ use Rattle.values.specs.declared.Value.{Value}
 use Rattle.values.specs.declared.Value.the-variants.{End, Malformed}
 use Rattle.values.proofs.Cases.{tail}
 use Rattle.values.proofs.Laws.{value-within}
-use Rattle.performatives.specs.Answers.{past, skip, front, item, orNull}
+use Rattle.performatives.specs.Inner.{past, skip, item, orNull}
 
 -- ---- skip
 

@@ -14,3 +14,6 @@ pub mod Conditions
 pub mod Placed
 pub mod Answered
 pub mod Chosen
+pub mod Front
+pub mod Laws
+pub mod Examples

@@ -1,9 +1,9 @@
 -- Lists at the front of bytes: what each step of `sized` and `list_at` shows.
 -- Assumes nothing.
-use mathlib.Core.Path.{_≡_, refl, sym, ap, _∙_}
-use mathlib.Core.Bool.{Bool, true, false, cond}
+use mathlib.Core.Path.{_≡_, sym, ap, _∙_}
+use mathlib.Core.Bool.{Bool, true, false}
 use mathlib.Core.List.{List, [], _∷_}
-use Prim.Native.Nat.{ℕ, zero, suc, _+_, _*_, _-_, _^_, _<_, _≤_}
+use Prim.Native.Nat.{ℕ, _+_, _*_, _-_, _^_, _<_, _≤_}
 use native.Mathlib.Omega.{arith}
 use mir.Syntax.{w32}
 use mir.Val.{Fits}
@@ -15,7 +15,7 @@ use Rattle.octets.specs.Verdict.{Verdict, refuse, accept, require, andThen}
 use Rattle.octets.specs.Octets.{bigEndian, startsWith}
 use Rattle.octets.proofs.Laws.{require-off}
 use Rattle.values.proofs.Apart.{number-is}
-use Rattle.values.specs.Value.{list, numberIn, pairedIn, opening}
+use Rattle.values.specs.Value.{numberIn, pairedIn, opening}
 use Rattle.performatives.specs.Performative.{Items, sized, listAt}
 
 number-not : (w : ℕ) (t : List ℕ) → length t < w → numberIn w t ≡ refuse 6

@@ -1,9 +1,9 @@
 -- Numbers in fields: what each step of `number_in`, `open` and `remote_channel` shows. `f` is the field, as `item` has it.
 -- Assumes nothing.
-use mathlib.Core.Path.{_≡_, refl, sym, ap, _∙_, subst}
-use mathlib.Core.Bool.{Bool, true, false, cond}
+use mathlib.Core.Path.{_≡_, refl, sym, _∙_, subst}
+use mathlib.Core.Bool.{Bool, true, false}
 use mathlib.Core.List.{List, [], _∷_}
-use Prim.Native.Nat.{ℕ, zero, suc, _+_, _*_, _-_, _^_, _<_, _≤_}
+use Prim.Native.Nat.{ℕ, _+_, _*_, _-_, _^_, _<_, _≤_}
 use native.Mathlib.Omega.{arith}
 use mir.Syntax.{Width, w16}
 use mir.Val.{Fits, bits}
@@ -11,10 +11,10 @@ use lib.ListN.{length, take, drop, length-take, length-drop}
 use lib.Seq.{take-all}
 use lib.Pow.{pow-mono}
 use Rattle.octets.specs.Octets.{bigEndian, startsWith}
-use Rattle.values.specs.Null.{null, isNull}
+use Rattle.values.specs.Null.{isNull}
 use Rattle.values.proofs.Cases.{tail}
 use Rattle.performatives.specs.Performative.{numberOf, numberOr, whenNot}
-use Rattle.performatives.specs.Answers.{item, orNull, valueAt, NumberRead, openSays}
+use Rattle.performatives.specs.Inner.{item, orNull, valueAt, NumberRead, openSays}
 
 pub there : (f : List ℕ) → isNull (orNull f) ≡ false → orNull f ≡ f
 unfolding startsWith

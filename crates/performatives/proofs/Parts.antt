@@ -1,11 +1,11 @@
 -- Parts of bytes.
 -- Assumes nothing.
-use mathlib.Core.Path.{_≡_, refl, sym, ap, _∙_}
+use mathlib.Core.Path.{_≡_, sym}
 use mathlib.Core.List.{List, [], _∷_}
-use Prim.Native.Nat.{ℕ, zero, suc, _+_, _-_, _≤_}
+use Prim.Native.Nat.{ℕ, zero, suc, _-_}
 use native.Mathlib.Omega.{arith}
-use lib.ListN.{length, take, drop}
-use lib.Seq.{take-nil, drop-nil}
+use lib.ListN.{take, drop}
+use lib.Seq.{take-nil}
 
 pub drop-take : (a n : ℕ) (t : List ℕ) → drop a (take n t) ≡ take (n - a) (drop a t)
 drop-take zero n t = let k : n - 0 ≡ n = omega arith in rw k

@@ -1,9 +1,9 @@
 -- The place of an error's condition: what each step of `text`, `error_condition` and `condition_in` shows.
 -- Assumes nothing.
 use mathlib.Core.Path.{_≡_, refl, sym, ap, _∙_, subst}
-use mathlib.Core.Bool.{Bool, true, false, cond, not}
-use mathlib.Core.List.{List, [], _∷_, _++_, append-nil}
-use Prim.Native.Nat.{ℕ, zero, suc, _+_, _*_, _-_, _^_, _<_, _≤_}
+use mathlib.Core.Bool.{Bool, true, false}
+use mathlib.Core.List.{List, [], _∷_, append-nil}
+use Prim.Native.Nat.{ℕ, _+_, _-_, _^_, _<_, _≤_}
 use native.Mathlib.Omega.{arith}
 use mir.Syntax.{w64}
 use mir.Val.{Fits}
@@ -12,13 +12,14 @@ use lib.Seq.{length-take-le}
 use Rattle.octets.specs.Verdict.{Verdict, refuse, accept}
 use Rattle.octets.specs.Octets.{bigEndian, startsWith}
 use Rattle.values.specs.Value.{valueEnd}
-use Rattle.values.specs.Null.{null, isNull}
+use Rattle.values.specs.Null.{isNull}
 use Rattle.values.proofs.Laws.{value-within, value-local}
 use Rattle.performatives.specs.declared.Described as D
 use Rattle.performatives.specs.declared.Described.the-variants.{List as IsDescribed, Malformed as NotDescribed}
 use Rattle.performatives.specs.Fields.{Error}
 use Rattle.performatives.specs.Performative.{Described, described, isError, hasType, fits, whenNot, textAt, conditionAt}
-use Rattle.performatives.specs.Answers.{describedSays, skip, front, item, orNull, valueAt, textFrom}
+use Rattle.performatives.specs.Answers.{describedSays}
+use Rattle.performatives.specs.Inner.{skip, front, item, orNull, valueAt, textFrom}
 use Rattle.performatives.proofs.Lists.{part-is}
 use Rattle.performatives.proofs.Bounds.{described-lies}
 use Rattle.performatives.proofs.Conditions.{error-text}

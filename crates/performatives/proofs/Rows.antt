@@ -1,17 +1,17 @@
 -- Fields by their rows: what each step of `fields` shows, for all rows together.
 -- Assumes nothing.
 use mathlib.Core.Path.{_≡_, refl, sym, ap, _∙_}
-use mathlib.Core.Bool.{Bool, true, false, cond, not, _&&_, and-false}
+use mathlib.Core.Bool.{Bool, true, false, _&&_, and-false}
 use mathlib.Core.List.{List, [], _∷_}
 use mathlib.Core.Option.{Option, none, some}
-use Prim.Native.Nat.{ℕ, zero, suc, _+_, _-_, _^_, _<_, _≤_}
-use native.Mathlib.Numerals.{add-one, sub-one}
+use Prim.Native.Nat.{ℕ, zero, suc, _+_, _-_, _<_, _≤_}
+use native.Mathlib.Numerals.{add-one}
 use native.Mathlib.Omega.{arith}
 use mir.Syntax.{w64}
 use mir.Val.{Fits}
 use lib.Dec.{eqb, leb}
 use lib.Seq.{drop-nil, length-take-le}
-use lib.ListN.{length, take, drop, length-take, length-drop}
+use lib.ListN.{length, take, drop}
 use borrow.Author.Tests.{ne-eqb, leb-true, leb-false}
 use Rattle.octets.specs.Verdict.{Verdict, refuse, accept, require, andThen, accepts}
 use Rattle.octets.specs.Octets.{startsWith}
@@ -19,7 +19,6 @@ use Rattle.values.specs.Value.{valueEnd}
 use Rattle.values.specs.Answers.{ended}
 use Rattle.values.specs.declared.Value.{Value}
 use Rattle.values.specs.declared.Value.the-variants.{End, Malformed}
-use Rattle.values.specs.Null.{null}
 use Rattle.values.proofs.Cases.{tail}
 use Rattle.values.proofs.Laws.{value-within}
 use Rattle.performatives.specs.declared.FieldType as C
@@ -27,8 +26,9 @@ use Rattle.performatives.specs.declared.Default as D
 use Rattle.performatives.specs.declared.Row as R
 use Rattle.performatives.specs.declared.Row.the-variants.{Field as IsField, Past}
 use Rattle.performatives.specs.Fields.{Field, fieldsOf, fieldIn, fieldOf, fieldAt}
-use Rattle.performatives.specs.Performative.{hasType, fits, fit, split, fieldsBy}
-use Rattle.performatives.specs.Answers.{typeSays, defaultSays, rowSays, rowsIn, rowsFrom}
+use Rattle.performatives.specs.Performative.{fits, fit, split, fieldsBy}
+use Rattle.performatives.specs.Answers.{typeSays, defaultSays, rowSays}
+use Rattle.performatives.specs.Inner.{rowsIn, rowsFrom}
 use Rattle.performatives.proofs.Table.{row-past}
 
 -- ---- the rows from field i on

@@ -13,28 +13,59 @@ use borrow.Author.Tests.{ne-eqb, leb-true}
 use Rattle.performatives.proofs.Bools.{and-first, and-second}
 use Rattle.performatives.specs.Fields.{Field, Any, UShort, UInt, String, Error, may, must, defaults, performatives, fieldsIn, fieldsOf, fieldIn, fieldOf, fieldAt}
 
+-- the letters of the table, as their bytes; o is a full stop
+abbrev a : ℕ
+a = 97
+
+abbrev s : ℕ
+s = 115
+
+abbrev S : ℕ
+S = 83
+
+abbrev u : ℕ
+u = 117
+
+abbrev U : ℕ
+U = 85
+
+abbrev M : ℕ
+M = 77
+
+abbrev h : ℕ
+h = 104
+
+abbrev m : ℕ
+m = 109
+
+abbrev e : ℕ
+e = 101
+
+abbrev o : ℕ
+o = 46
+
 abbrev pub rows : List ℕ
 rows =
-    2 ∷ 3 ∷ 4 ∷ 5 ∷ 6 ∷ 1 ∷ 1 ∷ 1 ∷ 1 ∷ 1 ∷ 0 ∷ 0 ∷ 0 ∷ 0 ∷
-    7 ∷ 8 ∷ 8 ∷ 8 ∷ 4 ∷ 1 ∷ 1 ∷ 1 ∷ 0 ∷ 0 ∷ 0 ∷ 0 ∷ 0 ∷ 0 ∷
-    1 ∷ 1 ∷ 1 ∷ 1 ∷ 1 ∷ 1 ∷ 1 ∷ 1 ∷ 1 ∷ 1 ∷ 1 ∷ 1 ∷ 1 ∷ 1 ∷
-    1 ∷ 1 ∷ 1 ∷ 1 ∷ 1 ∷ 1 ∷ 1 ∷ 1 ∷ 1 ∷ 1 ∷ 1 ∷ 0 ∷ 0 ∷ 0 ∷
-    1 ∷ 1 ∷ 1 ∷ 1 ∷ 1 ∷ 1 ∷ 1 ∷ 1 ∷ 1 ∷ 1 ∷ 1 ∷ 0 ∷ 0 ∷ 0 ∷
-    1 ∷ 1 ∷ 1 ∷ 1 ∷ 1 ∷ 1 ∷ 0 ∷ 0 ∷ 0 ∷ 0 ∷ 0 ∷ 0 ∷ 0 ∷ 0 ∷
-    1 ∷ 1 ∷ 9 ∷ 0 ∷ 0 ∷ 0 ∷ 0 ∷ 0 ∷ 0 ∷ 0 ∷ 0 ∷ 0 ∷ 0 ∷ 0 ∷
-    9 ∷ 0 ∷ 0 ∷ 0 ∷ 0 ∷ 0 ∷ 0 ∷ 0 ∷ 0 ∷ 0 ∷ 0 ∷ 0 ∷ 0 ∷ 0 ∷
-    9 ∷ 0 ∷ 0 ∷ 0 ∷ 0 ∷ 0 ∷ 0 ∷ 0 ∷ 0 ∷ 0 ∷ 0 ∷ 0 ∷ 0 ∷ 0 ∷ []
+    S ∷ s ∷ M ∷ m ∷ u ∷ a ∷ a ∷ a ∷ a ∷ a ∷ o ∷ o ∷ o ∷ o ∷
+    h ∷ U ∷ U ∷ U ∷ M ∷ a ∷ a ∷ a ∷ o ∷ o ∷ o ∷ o ∷ o ∷ o ∷
+    a ∷ a ∷ a ∷ a ∷ a ∷ a ∷ a ∷ a ∷ a ∷ a ∷ a ∷ a ∷ a ∷ a ∷
+    a ∷ a ∷ a ∷ a ∷ a ∷ a ∷ a ∷ a ∷ a ∷ a ∷ a ∷ o ∷ o ∷ o ∷
+    a ∷ a ∷ a ∷ a ∷ a ∷ a ∷ a ∷ a ∷ a ∷ a ∷ a ∷ o ∷ o ∷ o ∷
+    a ∷ a ∷ a ∷ a ∷ a ∷ a ∷ o ∷ o ∷ o ∷ o ∷ o ∷ o ∷ o ∷ o ∷
+    a ∷ a ∷ e ∷ o ∷ o ∷ o ∷ o ∷ o ∷ o ∷ o ∷ o ∷ o ∷ o ∷ o ∷
+    e ∷ o ∷ o ∷ o ∷ o ∷ o ∷ o ∷ o ∷ o ∷ o ∷ o ∷ o ∷ o ∷ o ∷
+    e ∷ o ∷ o ∷ o ∷ o ∷ o ∷ o ∷ o ∷ o ∷ o ∷ o ∷ o ∷ o ∷ o ∷ []
 
 unfoldable pub rowIn : List (ℕ × Field) → ℕ → Option Field
 rowIn [] n = none
 rowIn (r ∷ rs) n = cond (eqb n (r .0)) (some (r .1)) (rowIn rs n)
 
--- the row that stands for a number of the table
+-- the row that a letter stands for
 unfoldable pub rowNamed : ℕ → Option Field
 rowNamed n =
     rowIn
-    ((1, may Any) ∷ (2, must String) ∷ (3, may String) ∷ (4, defaults UInt 4294967295) ∷ (5, defaults UShort 65535)
-    ∷ (6, may UInt) ∷ (7, may UShort) ∷ (8, must UInt) ∷ (9, may Error) ∷ [])
+    ((a, may Any) ∷ (s, may String) ∷ (S, must String) ∷ (u, may UInt) ∷ (U, must UInt) ∷ (M, defaults UInt 4294967295)
+    ∷ (h, may UShort) ∷ (m, defaults UShort 65535) ∷ (e, may Error) ∷ [])
     n
 
 placed : ℕ → Option Field
@@ -81,10 +112,10 @@ entry code i n v l h j e q =
     q ∙ ap rowNamed (sym e) ∙ table-right ((code - 16) * 14 + i) k ∙ rw (a, b)
 
 -- the last arm of the match
-pub named-else : (n : ℕ) → (n ≡ 1 → ⊥) → (n ≡ 2 → ⊥) → (n ≡ 3 → ⊥) → (n ≡ 4 → ⊥) → (n ≡ 5 → ⊥) → (n ≡ 6 → ⊥) → (n ≡ 7 → ⊥) → (n ≡ 8 → ⊥) → (n ≡ 9 → ⊥) → none ≡ rowNamed n
+pub named-else : (n : ℕ) → (n ≡ a → ⊥) → (n ≡ s → ⊥) → (n ≡ S → ⊥) → (n ≡ u → ⊥) → (n ≡ U → ⊥) → (n ≡ M → ⊥) → (n ≡ h → ⊥) → (n ≡ m → ⊥) → (n ≡ e → ⊥) → none ≡ rowNamed n
 unfolding rowNamed rowIn
-named-else n h1 h2 h3 h4 h5 h6 h7 h8 h9 =
-    rw (ne-eqb n 1 h1, ne-eqb n 2 h2, ne-eqb n 3 h3, ne-eqb n 4 h4, ne-eqb n 5 h5, ne-eqb n 6 h6, ne-eqb n 7 h7, ne-eqb n 8 h8, ne-eqb n 9 h9)
+named-else n ha hs hS hu hU hM hh hm he =
+    rw (ne-eqb n a ha, ne-eqb n s hs, ne-eqb n S hS, ne-eqb n u hu, ne-eqb n U hU, ne-eqb n M hM, ne-eqb n h hh, ne-eqb n m hm, ne-eqb n e he)
 
 -- ---- what lies outside the table: the descriptors are 16 to 24, and no performative has more than fourteen fields
 

@@ -1,13 +1,12 @@
 -- Fields and their types: what each step of `is_error` and `fits` shows.
 -- Assumes nothing.
-use mathlib.Core.Path.{_≡_, refl, sym, ap, _∙_}
-use mathlib.Core.Bool.{Bool, true, false, cond, not, _&&_}
+use mathlib.Core.Path.{_≡_, sym, ap, _∙_}
+use mathlib.Core.Bool.{Bool, true, false, not}
 use mathlib.Core.List.{List, [], _∷_}
-use Prim.Native.Nat.{ℕ, zero, suc, _+_, _-_, _<_, _≤_}
-use native.Mathlib.Omega.{arith}
+use Prim.Native.Nat.{ℕ, _-_, _<_, _≤_}
 use lib.ListN.{length, take, drop}
 use borrow.Author.Tests.{eq-eqb, ne-eqb, le-leb, lt-leb}
-use Rattle.octets.specs.Verdict.{Verdict, refuse, accept}
+use Rattle.octets.specs.Verdict.{accept}
 use Rattle.octets.specs.Octets.{startsWith}
 use Rattle.values.specs.Null.{null}
 use Rattle.performatives.specs.declared.FieldType as C

@@ -1,3 +1,4 @@
 pub mod Fields
 pub mod Performative
 pub mod Answers
+pub mod Inner

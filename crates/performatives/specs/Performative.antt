@@ -1,12 +1,12 @@
 -- A performative, read from the body of a frame: Part 1 section 1.4 (composite types) and Part 2 section 2.7, as document 01 has them checked.
 -- Where a rule refuses, it refuses with 6. Assumes nothing: these are definitions.
-use Prim.Native.Nat.{ℕ, zero, suc, _+_, _*_, _-_, _≤_}
-use mathlib.Core.Bool.{Bool, true, false, cond, _&&_, _||_, not}
-use mathlib.Core.List.{List, [], _∷_, _++_}
+use Prim.Native.Nat.{ℕ, zero, suc, _+_, _-_}
+use mathlib.Core.Bool.{Bool, true, false, cond, _&&_, not}
+use mathlib.Core.List.{List, [], _∷_}
 use mathlib.Core.Option.{Option, none, some}
 use lib.ListN.{length, take, drop, getD}
 use lib.Dec.{leb, eqb}
-use Rattle.octets.specs.Verdict.{Verdict, refuse, accept, require, andThen, accepts}
+use Rattle.octets.specs.Verdict.{Verdict, refuse, accept, require, andThen}
 use Rattle.octets.specs.Octets.{bigEndian, startsWith}
 use Rattle.values.specs.Value.{list, opening, valueEnd}
 use Rattle.values.specs.Null.{null, isNull}

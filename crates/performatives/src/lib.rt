@@ -1,20 +1,56 @@
-// Performatives.
+// Performatives, read from the bodies of frames: which it is, whether its fields are well formed and of their types, and what the layers above learn of it.
+use values::DEPTH;
 use values::Value;
 ghost use mathlib.Core.Path.{_≡_};
 ghost use mathlib.Core.Bool.{true, false};
+ghost use mathlib.Core.List.{[], _∷_};
+ghost use mathlib.Core.Option.{some};
+ghost use Prim.Native.Nat.{_+_, _^_, _≤_, _<_};
+ghost use lib.ListN.{length};
 ghost use Rattle.octets.specs.Verdict.{accept, accepts, andThen};
 ghost use Rattle.octets.specs.Octets.{startsWith};
 ghost use Rattle.values.specs.Value.{valueEnd};
 ghost use Rattle.values.specs.Null.{isNull};
-ghost use mathlib.Core.List.{[], _∷_};
-ghost use mathlib.Core.Option.{some};
-ghost use lib.ListN.{length};
-ghost use Prim.Native.Nat.{_+_, _^_, _≤_, _<_};
 ghost use Rattle.performatives.specs.Fields.{Error, may, must, defaults, fieldAt};
-ghost use Rattle.performatives.specs.Answers.{typeSays, rowSays, itemsSays, descriptorSays, describedSays, rowsFrom, skip, item, orNull, valueAt, NumberRead, openSays, channelSays, textFrom, conditionSays, performativeSays, bodySays};
-ghost use Rattle.performatives.specs.Performative.{sized, listAt, descriptor, described, isError, fits, fieldsBy, numberOf, performativeBy, whenNot, textAt, conditionAt, said, performativeSaid};
+ghost use Rattle.performatives.specs.Performative.{
+  sized,
+  listAt,
+  descriptor,
+  described,
+  isError,
+  fits,
+  fieldsBy,
+  numberOf,
+  performativeBy,
+  whenNot,
+  textAt,
+  conditionAt,
+  said,
+  performativeSaid,
+};
+ghost use Rattle.performatives.specs.Answers.{
+  typeSays,
+  rowSays,
+  describedSays,
+  channelSays,
+  conditionSays,
+  performativeSays,
+  bodySays,
+};
+ghost use Rattle.performatives.specs.Inner.{
+  itemsSays,
+  descriptorSays,
+  rowsFrom,
+  skip,
+  item,
+  orNull,
+  valueAt,
+  NumberRead,
+  openSays,
+  textFrom,
+};
 
-// The type of a field, as far as it is checked.
+// The type of a field. The value of an `Any` field is not looked into.
 pub enum FieldType {
     Any,
     UShort,
@@ -23,11 +59,13 @@ pub enum FieldType {
     Error,
 }
 
+// What null in a field stands for.
 pub enum Default {
     Null,
     Number(u32),
 }
 
+// What the table says of a field; past the last field of a performative, and where there is no such performative, nothing.
 pub enum Row {
     Field {
         kind: FieldType,
@@ -36,14 +74,20 @@ pub enum Row {
     },
     Past,
 }
+
+// A list at the front of bytes: how many values it says it has, and from where to where they lie.
 enum Items {
     List { count: u32, from: usize, end: usize },
     Malformed,
 }
+
+// A descriptor at the front of bytes: its number, and where it ends.
 enum Descriptor {
     Ulong { code: u64, end: usize },
     Malformed,
 }
+
+// A descriptor and a list.
 pub enum Described {
     List {
         code: u64,
@@ -53,10 +97,25 @@ pub enum Described {
     },
     Malformed,
 }
-pub enum RemoteChannel { Absent, Is(u16) }
-pub enum Condition { Absent, At { from: usize, len: usize } }
+
+pub enum RemoteChannel {
+    Absent,
+    Is(u16),
+}
+
+// The condition of an error: where its text begins in the body, and how long it is.
+pub enum Condition {
+    Absent,
+    At { from: usize, len: usize },
+}
+
+// An idle-time-out of zero is none.
 pub enum Performative {
-    Open { max_frame_size: u32, channel_max: u16, idle_time_out: u32 },
+    Open {
+        max_frame_size: u32,
+        channel_max: u16,
+        idle_time_out: u32,
+    },
     Begin(RemoteChannel),
     Attach,
     Flow,
@@ -66,20 +125,31 @@ pub enum Performative {
     End(Condition),
     Close(Condition),
 }
-pub enum Body { Is { performative: Performative, end: usize }, Malformed }
 
-// For each performative, from descriptor 16 to 24, the rows of its fields, at most fourteen, as `field_row` reads them.
-const ROWS: [u8; 126] = [
-    2, 3, 4, 5, 6, 1, 1, 1, 1, 1, 0, 0, 0, 0,
-    7, 8, 8, 8, 4, 1, 1, 1, 0, 0, 0, 0, 0, 0,
-    1, 1, 1, 1, 1, 1, 1, 1, 1, 1, 1, 1, 1, 1,
-    1, 1, 1, 1, 1, 1, 1, 1, 1, 1, 1, 0, 0, 0,
-    1, 1, 1, 1, 1, 1, 1, 1, 1, 1, 1, 0, 0, 0,
-    1, 1, 1, 1, 1, 1, 0, 0, 0, 0, 0, 0, 0, 0,
-    1, 1, 9, 0, 0, 0, 0, 0, 0, 0, 0, 0, 0, 0,
-    9, 0, 0, 0, 0, 0, 0, 0, 0, 0, 0, 0, 0, 0,
-    9, 0, 0, 0, 0, 0, 0, 0, 0, 0, 0, 0, 0, 0,
-];
+// A performative, and where it ends in the body.
+pub enum Body {
+    Is {
+        performative: Performative,
+        end: usize,
+    },
+    Malformed,
+}
+
+// ---- the table of fields
+
+// A line for each performative, from descriptor 16 to 24, with a letter for each of its fields, at most fourteen. What the letters
+// stand for is in `field_row`.
+const ROWS: [u8; 126] = *b"\
+    SsMmuaaaaa....\
+    hUUUMaaa......\
+    aaaaaaaaaaaaaa\
+    aaaaaaaaaaa...\
+    aaaaaaaaaaa...\
+    aaaaaa........\
+    aae...........\
+    e.............\
+    e.............\
+";
 
 fn may(kind: FieldType) -> Row
     ensures { λ r. ⌜ rowSays r ≡ some (may (typeSays kind)) ⌝ }
@@ -125,20 +195,22 @@ pub fn field_row(code: u64, i: usize) -> Row
         return Row::Past;
     }
     let at = (code - 16) as usize * 14 + i;
-    let n = ROWS[at];
-    match n {
-        1 => may(FieldType::Any),
-        2 => must(FieldType::String),
-        3 => may(FieldType::String),
-        4 => defaults(FieldType::UInt, 4294967295),
-        5 => defaults(FieldType::UShort, 65535),
-        6 => may(FieldType::UInt),
-        7 => may(FieldType::UShort),
-        8 => must(FieldType::UInt),
-        9 => may(FieldType::Error),
+    let letter = ROWS[at];
+    match letter {
+        b'a' => may(FieldType::Any),
+        b's' => may(FieldType::String),
+        b'S' => must(FieldType::String),
+        b'u' => may(FieldType::UInt),
+        b'U' => must(FieldType::UInt),
+        b'M' => defaults(FieldType::UInt, 4294967295),
+        b'h' => may(FieldType::UShort),
+        b'm' => defaults(FieldType::UShort, 65535),
+        b'e' => may(FieldType::Error),
         _ => Row::Past,
     }
 }
+
+// ---- a described list
 
 // Whether `s` starts with one of these format codes.
 fn starts_with(s: &[u8], codes: &[u8]) -> bool
@@ -239,10 +311,19 @@ pub fn described_list(s: &[u8]) -> Described
     }
 }
 
+// ---- fields
+
+// Descriptor 29 with one to three fields, the first a symbol.
 fn is_error(f: &[u8]) -> bool
     ensures { λ r. ⌜ r ≡ isError (now (f .entry)) ⌝ }
 {
-    let Described::List { code, count, from, end } = described_list(f) else {
+    let Described::List {
+        code,
+        count,
+        from,
+        end,
+    } = described_list(f)
+    else {
         return false;
     };
     if code != 29 {
@@ -281,7 +362,8 @@ fn fields(s: &[u8], code: u64, i: usize, count: u32) -> bool
         kind,
         mandatory,
         default: _,
-    } = field_row(code, i) else {
+    } = field_row(code, i)
+    else {
         if count == 0 {
             return s.len() == 0;
         }
@@ -293,7 +375,7 @@ fn fields(s: &[u8], code: u64, i: usize, count: u32) -> bool
         }
         return fields(s, code, i + 1, 0);
     }
-    let Value::End(n) = values::value_end(s, 16) else {
+    let Value::End(n) = values::value_end(s, DEPTH) else {
         return false;
     };
     if fits(&s[..n], kind, mandatory) {
@@ -302,6 +384,8 @@ fn fields(s: &[u8], code: u64, i: usize, count: u32) -> bool
     false
 }
 
+// ---- the values of a list, found one after the other
+
 // Where value `i` of those in `s` begins; where they end, if there are not so many.
 fn skip(s: &[u8], i: usize) -> usize
     ensures { λ r. ⌜ r ≡ skip i (now (s .entry)) ⌝ }
@@ -309,7 +393,7 @@ fn skip(s: &[u8], i: usize) -> usize
     if i == 0 {
         return 0;
     }
-    let Value::End(n) = values::value_end(s, 16) else {
+    let Value::End(n) = values::value_end(s, DEPTH) else {
         return 0;
     };
     n + skip(&s[n..], i - 1)
@@ -321,7 +405,7 @@ fn item(s: &[u8], i: usize) -> &[u8]
 {
     let at = skip(s, i);
     let rest = &s[at..];
-    let Value::End(n) = values::value_end(rest, 16) else {
+    let Value::End(n) = values::value_end(rest, DEPTH) else {
         return &rest[..0];
     };
     &rest[..n]
@@ -336,6 +420,8 @@ fn is_null(f: &[u8]) -> bool
     }
     starts_with(f, &[0x40])
 }
+
+// ---- what the fields say
 
 // The number in field `i`, or another in the place of null.
 fn number_in(s: &[u8], i: usize, other: u64) -> u64
@@ -401,7 +487,8 @@ fn error_condition(f: &[u8], at: usize) -> Condition
         count: _,
         from,
         end,
-    } = described_list(f) else {
+    } = described_list(f)
+    else {
         return Condition::Absent;
     };
     text(&f[from..end], at + from)
@@ -419,7 +506,9 @@ fn condition_in(s: &[u8], i: usize, from: usize) -> Condition
     error_condition(f, from + skip(s, i))
 }
 
-// A performative, by its descriptor and its fields: `count` values that fill `s`, which begins at place `from` and ends at place `end`.
+// ---- a performative
+
+// A performative by its descriptor and its fields, which are `count` values that fill `s`. They lie from place `from` to place `end` of the body.
 fn performative_in(s: &[u8], code: u64, count: u32, from: usize, end: usize) -> Body
     requires { ⌜ from + length (now s) < 2 ^ 64 ⌝ }
     ensures { λ r. ⌜ bodySays r ≡ andThen (performativeBy (record { code = code; count = count; from = from; end = end }) (now (s .entry))) (λ p. accept (said p)) ⌝ }
@@ -451,7 +540,8 @@ pub fn read(body: &[u8]) -> Body
         count,
         from,
         end,
-    } = described_list(body) else {
+    } = described_list(body)
+    else {
         return Body::Malformed;
     };
     performative_in(&body[from..end], code, count, from, end)

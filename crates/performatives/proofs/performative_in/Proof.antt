@@ -6,7 +6,7 @@ use borrow.Author.Needs.{needs}
 use borrow.Author.Tests.{not-true, not-false}
 use Rattle.performatives.specs.Fields.{fieldAt, fieldOf, fieldIn, fieldsOf, fieldsIn}
 use Rattle.performatives.specs.Performative.{rowsFor, valuesOf, valuesIn}
-use Rattle.performatives.specs.Answers.{rowsFrom}
+use Rattle.performatives.specs.Inner.{rowsFrom}
 use Rattle.performatives.proofs.Chosen.{unfit, other, open-given, begin-given, error-given, arm, open-values, begin-values, condition-values, says}
 use Rattle.performatives.proofs.performative_in.Statement.{statement}
 use Rattle.performatives.proofs.performative_in.Tie as tie

@@ -1,7 +1,6 @@
 -- `starts_with`: the loop keeps that none of the codes passed is the first byte.
 -- Assumes nothing.
 use Prim.Native.Nat.{_-_, _≤_}
-use native.Mathlib.Omega.{arith}
 use lib.ListN.{length}
 use borrow.Author.Needs.{needs}
 use Rattle.performatives.proofs.Codes.{From, starts-none, from-first, from-found, from-more, from-last}
