@@ -33,12 +33,12 @@ pub length-7-in-4-bytes : readFrame 512 0 (0x00 ∷ 0x00 ∷ 0x00 ∷ 0x07 ∷ [
 unfolding readFrame frame require andThen bigEndian bigEndianFrom
 length-7-in-4-bytes = refl
 
--- type 1 on channel 9, and then that channel alone
+-- type 1, and on channel 9
 pub type-before-channel : readFrame 512 7 (0x00 ∷ 0x00 ∷ 0x00 ∷ 0x08 ∷ 0x02 ∷ 0x01 ∷ 0x00 ∷ 0x09 ∷ []) ≡ refuse 5
 unfolding readFrame frame require andThen bigEndian bigEndianFrom
 type-before-channel = refl
 
--- the body is malformed too
+-- channel 9, and a malformed body
 pub channel-before-body : readFrame 512 7 (0x00 ∷ 0x00 ∷ 0x00 ∷ 0x09 ∷ 0x02 ∷ 0x00 ∷ 0x00 ∷ 0x09 ∷ 0xFF ∷ []) ≡ refuse 7
 unfolding readFrame frame require andThen bigEndian bigEndianFrom
 channel-before-body = refl

@@ -303,5 +303,3 @@ pub +trim-fields-spec : {M : Type 1} → statement M
     (trim-fields-trim-fields-requires t)
     (trim-fields-before-requires t)
     (trim-fields-returns-2 t)
-
--- touched 15601

@@ -1,0 +1,312 @@
+-- Connections that draw the same from every list of calls have the same account: a few short lists of calls tell its parts. The state is told by eight single
+-- calls, a limit by a frame of its length, the taken channels by deallocating, the hand-out list by allocating, and the ties by a Detach on each channel.
+-- Assumes nothing.
+use mathlib.Core.Path.{_≡_, refl, sym, _∙_, ap, ap₂, subst, fun-ext}
+use mathlib.Core.Bool.{Bool, true, false, cond, not, _&&_}
+use mathlib.Core.List.{List, [], _∷_}
+use mathlib.Core.Option.{Option, none, some}
+use Prim.Native.Nat.{ℕ, _+_, _*_, _≤_, _<_}
+use native.Mathlib.Omega.{arith}
+use lib.Dec.{leb, eqb}
+use lib.ListN.{length}
+use borrow.Author.Tests.{le-leb, leb-true, leb-false, lt-ltb, not-false}
+use Rattle.octets.specs.Verdict.{Verdict, refuse, require, accepts}
+use Rattle.octets.specs.Octets.{bytesOf}
+use Rattle.text.specs.Utf8.{utf8}
+use Rattle.frame_encoder.specs.Frames.{Settings, frameBytes, settingsOk}
+use Rattle.connection_model.specs.States.{State, Start, HeaderReceived, HeaderSent, HeaderExchange, OpenPipe, OpenClosePipe, OpenReceived, OpenSent, ClosePipe, Opened, CloseReceived, CloseSent, Discarding, End, is, isOneOf, sendHeader, receiveHeader, sendOpen, readOpen, sendClose, readClose, reading, sending, stopped}
+use Rattle.connection_model.specs.Connection.{Role, Map, with, Connection, connection, Call, sendHeaderTo, receiveHeaderFrom, sendOpenTo, receiveFrame, sendCloseTo, sendSessionFrame, allocate, deallocate, Answer, given, decide, answered, Seen, next, seenIn}
+use Rattle.connection_model.specs.Account.{when, limitsShow, account}
+use Rattle.connection_model.specs.Callers.{isValid, areValid, Valid}
+use Rattle.connection_model.proofs.Valid.{both}
+use Rattle.connection_model.proofs.ProbeFrames.{framed, anOpen, aClose, aDetach, detached}
+use Rattle.connection_model.proofs.Probes.{space, space-slice, refusedWith, refuses, bars, amqp, frame-valid, sendHeader-told, receiveHeader-told, sendOpen-told, sendClose-told, readOpen-told, readClose-told, readDetach-told, allocate-told, number-valid, length-told, transferOf, transfer-valid, transfer-told, at, close-next, detach-read, passed-told, released-told, head-told, absent-told}
+
+-- ---- premises
+
+-- what holds of every connection that calls lead to, over the fields that it speaks of
+pub record InReach (highest readingLimit writingLimit : ℕ) (taken ties : Map) : Type 0 where
+  pub reading-low : 512 ≤ readingLimit
+  pub reading-high : readingLimit ≤ 16384
+  pub writing-low : 512 ≤ writingLimit
+  pub writing-high : writingLimit ≤ 16384
+  pub taken-in : (n h : ℕ) → taken n ≡ some h → n ≤ 255
+  pub ties-in : (n h : ℕ) → ties n ≡ some h → n ≤ highest
+
+abbrev pub Reachable : Settings → Connection → Type 0
+Reachable S c = InReach (S .channelMax) (c .readingLimit) (c .writingLimit) (c .taken) (c .ties)
+
+-- no list of calls that a caller can pass tells them apart
+abbrev pub Same : Role → Settings → Connection → Connection → Type 0
+Same role S c d = (calls : List Call) → Valid calls → seenIn role S c calls ≡ seenIn role S d calls
+
+-- ---- a single call, and what comes after it
+
+first : List Seen → Verdict Answer
+first [] = refuse 0
+first (s ∷ ss) = s .answer
+
+others : List Seen → List Seen
+others [] = []
+others (s ∷ ss) = ss
+
+module _ (role : Role) (S : Settings) (c d : Connection) (same : Same role S c d) (call : Call) (ok : isValid call ≡ true) where
+  one : answered (decide role S c call) ≡ answered (decide role S d call)
+  unfolding first
+  one = ap first (same (call ∷ []) (both (isValid call) true ok refl))
+
+  later : Same role S (next role S c call) (next role S d call)
+  unfolding others
+  later calls oks = ap others (same (call ∷ calls) (both (isValid call) (areValid calls) ok oks))
+
+  refuse-both : (k : ℕ) → refuses k (decide role S c call) ≡ refuses k (decide role S d call)
+  refuse-both k = ap (refusedWith k) one
+
+-- ---- the state
+
+-- how a state answers the eight
+abbrev signs : State → List Bool
+signs x =
+    bars sendHeader x
+    ∷ bars receiveHeader x
+    ∷ bars sendOpen x
+    ∷ bars sendClose x
+    ∷ cond (is Discarding x) false (bars readOpen x)
+    ∷ bars readClose x
+    ∷ cond (is Discarding x) false (not (isOneOf reading x))
+    ∷ not (not (isOneOf stopped x))
+    ∷ []
+
+states : List State
+states =
+    Start ∷ HeaderReceived ∷ HeaderSent ∷ HeaderExchange ∷ OpenPipe ∷ OpenClosePipe ∷ OpenReceived ∷ OpenSent ∷ ClosePipe ∷ Opened ∷ CloseReceived
+    ∷ CloseSent ∷ Discarding ∷ End ∷ []
+
+abbrev number : List Bool → ℕ
+number [] = 0
+number (true ∷ bs) = 1 + 2 * number bs
+number (false ∷ bs) = 2 * number bs
+
+-- the state that answers so
+find : ℕ → List State → State
+find n [] = End
+find n (x ∷ xs) = cond (eqb n (number (signs x))) x (find n xs)
+
+-- no two states answer the eight alike
+found : (x : State) → find (number (signs x)) states ≡ x
+unfolding find states accepts
+found Start = refl
+found HeaderReceived = refl
+found HeaderSent = refl
+found HeaderExchange = refl
+found OpenPipe = refl
+found OpenClosePipe = refl
+found OpenReceived = refl
+found OpenSent = refl
+found ClosePipe = refl
+found Opened = refl
+found CloseReceived = refl
+found CloseSent = refl
+found Discarding = refl
+found End = refl
+
+-- ---- a limit, by what it lets pass
+
+limit-le : (a b : ℕ) → not (leb a a) ≡ not (leb a b) → a ≤ b
+limit-le a b e = leb-true a b (not-false (leb a b) (sym e ∙ ap not (le-leb a a (omega arith))))
+
+limits : (a b : ℕ) → 512 ≤ a → a ≤ 16384 → 512 ≤ b → b ≤ 16384 → ((n : ℕ) → 512 ≤ n → n ≤ 16384 → not (leb n a) ≡ not (leb n b)) → a ≡ b
+limits a b la ha lb hb told =
+    let p : a ≤ b = limit-le a b (told a la ha) in
+    let q : b ≤ a = limit-le b a (sym (told b lb hb)) in
+    omega arith
+
+-- ---- a map that ends at m has nothing above it
+
+ends-at : (m n : ℕ) (o : Option ℕ) → m < n → ((h : ℕ) → o ≡ some h → n ≤ m) → o ≡ none
+ends-at m n none lt ends = refl
+ends-at m n (some h) lt ends = let le : n ≤ m = ends h refl in absurd (omega arith)
+
+-- ---- what shows in every state
+
+module _ (role : Role) (S : Settings) (c d : Connection) (i : Reachable S c) (j : Reachable S d) (same : Same role S c d) where
+  sign-both : (k : ℕ) (call : Call) → isValid call ≡ true → (sign : State → Bool)
+      → ((e : Connection) → 512 ≤ e .readingLimit → refuses k (decide role S e call) ≡ sign (e .state)) → sign (c .state) ≡ sign (d .state)
+  sign-both k call ok sign told = sym (told c (i .reading-low)) ∙ refuse-both role S c d same call ok k ∙ told d (j .reading-low)
+
+  signs-both : signs (c .state) ≡ signs (d .state)
+  signs-both = λ z.
+      sign-both 20 (sendHeaderTo space) space-slice _ (sendHeader-told role S) z
+      ∷ sign-both 20 (receiveHeaderFrom amqp) refl _ (receiveHeader-told role S) z
+      ∷ sign-both 20 (sendOpenTo space) space-slice _ (sendOpen-told role S) z
+      ∷ sign-both 20 (sendCloseTo none space) space-slice _ (sendClose-told role S) z
+      ∷ sign-both 20 (receiveFrame (frameBytes 0 anOpen) 0) (frame-valid 0 anOpen refl (omega arith)) _ (readOpen-told role S) z
+      ∷ sign-both 20 (receiveFrame (frameBytes 0 aClose) 0) (frame-valid 0 aClose refl (omega arith)) _ (readClose-told role S) z
+      ∷ sign-both 20 (receiveFrame (frameBytes 0 aDetach) 0) (frame-valid 0 aDetach refl (omega arith)) _ (readDetach-told role S) z
+      ∷ sign-both 22 (allocate 0) refl _ (allocate-told role S) z
+      ∷ []
+
+  state-both : c .state ≡ d .state
+  state-both = sym (found (c .state)) ∙ ap (λ l. find (number l) states) signs-both ∙ found (d .state)
+
+  reading-both : c .readingLimit ≡ d .readingLimit
+  reading-both =
+      limits (c .readingLimit) (d .readingLimit) (i .reading-low) (i .reading-high) (j .reading-low) (j .reading-high)
+      (λ n low high. sym (length-told role S c n (omega arith) (omega arith))
+      ∙ refuse-both role S c d same (receiveFrame (bytesOf 4 n) 0) (number-valid n) 4 ∙ length-told role S d n (omega arith) (omega arith))
+
+  taken-by : (n : ℕ) (t : Bool) → leb n 255 ≡ t → c .taken n ≡ d .taken n
+  taken-by n true e =
+      let le : n ≤ 255 = leb-true n 255 e in
+      released-told n (c .taken n) (d .taken n) (one role S c d same (deallocate n) (lt-ltb n 65536 (omega arith)))
+  taken-by n false e =
+      let lt : 255 < n = leb-false n 255 e in
+      ends-at 255 n (c .taken n) lt (i .taken-in n) ∙ sym (ends-at 255 n (d .taken n) lt (j .taken-in n))
+
+  taken-both : c .taken ≡ d .taken
+  taken-both = fun-ext (λ n. taken-by n (leb n 255) refl)
+
+-- ---- where the limits show
+
+data Shows : State → Type 0 where
+  in-received : Shows OpenReceived
+  in-opened : Shows Opened
+  in-closing : Shows CloseReceived
+
+module _ (role : Role) (S : Settings) (c d : Connection) (i : Reachable S c) (j : Reachable S d) (l m : Option (List ℕ)) where
+  abbrev SameAt : State → Type 0
+  SameAt x = Same role S (at x l c) (at x m d)
+
+  closed-both : SameAt OpenReceived → SameAt CloseReceived
+  closed-both same =
+      subst (λ e. Same role S e (at CloseReceived m d)) (close-next role S l c (i .reading-low))
+      (subst (Same role S (next role S (at OpenReceived l c) (receiveFrame (frameBytes 0 aClose) 0))) (close-next role S m d (j .reading-low))
+      (later role S (at OpenReceived l c) (at OpenReceived m d) same (receiveFrame (frameBytes 0 aClose) 0) (frame-valid 0 aClose refl (omega arith))))
+
+  transfer-both : (x : State) → isOneOf sending x ≡ true → SameAt x → c .writingLimit ≡ d .writingLimit
+  transfer-both x sends same =
+      limits (c .writingLimit) (d .writingLimit) (i .writing-low) (i .writing-high) (j .writing-low) (j .writing-high)
+      (λ n low high. sym (transfer-told role S (at x l c) sends n (omega arith) high)
+      ∙ refuse-both role S (at x l c) (at x m d) same (sendSessionFrame (transferOf n) space) (transfer-valid n high) 27
+      ∙ transfer-told role S (at x m d) sends n (omega arith) high)
+
+  writing-both : (x : State) → Shows x → SameAt x → c .writingLimit ≡ d .writingLimit
+  writing-both x in-received same = transfer-both CloseReceived refl (closed-both same)
+  writing-both x in-opened same = transfer-both Opened refl same
+  writing-both x in-closing same = transfer-both CloseReceived refl same
+
+  ties-by : S .channelMax ≤ 255 → SameAt Opened → (n : ℕ) (t : Bool) → leb n (S .channelMax) ≡ t → c .ties n ≡ d .ties n
+  ties-by few same n true e =
+      let le : n ≤ S .channelMax = leb-true n (S .channelMax) e in
+      passed-told (framed 15 n) detached (c .ties n) (d .ties n)
+      (ap answered (sym (detach-read role S l c n (i .reading-low) le (omega arith)))
+      ∙ one role S (at Opened l c) (at Opened m d) same (receiveFrame (frameBytes n aDetach) 0) (frame-valid n aDetach refl (omega arith))
+      ∙ ap answered (detach-read role S m d n (j .reading-low) le (omega arith)))
+  ties-by few same n false e =
+      let lt : S .channelMax < n = leb-false n (S .channelMax) e in
+      ends-at (S .channelMax) n (c .ties n) lt (i .ties-in n) ∙ sym (ends-at (S .channelMax) n (d .ties n) lt (j .ties-in n))
+
+  ties-both : S .channelMax ≤ 255 → SameAt Opened → c .ties ≡ d .ties
+  ties-both few same = fun-ext (λ n. ties-by few same n (leb n (S .channelMax)) refl)
+
+-- ---- the hand-out list
+
+-- a channel more is taken
+abbrev taking : ℕ → Connection → Connection
+taking ch c = connection (c .state) (c .readingLimit) (c .writingLimit) (c .agreedMax) (c .handOut) (with (c .taken) ch (some 0)) (c .ties)
+
+module _ (role : Role) (S : Settings) where
+  allocate-both : (x : State) → Shows x → (l m : Option (List ℕ)) (c d : Connection) → Same role S (at x l c) (at x m d) → answered (given 0 l) ≡ answered (given 0 m)
+  unfolding require
+  allocate-both x in-received l m c d same = one role S _ _ same (allocate 0) refl
+  allocate-both x in-opened l m c d same = one role S _ _ same (allocate 0) refl
+  allocate-both x in-closing l m c d same = one role S _ _ same (allocate 0) refl
+
+  allocated-both : (x : State) → Shows x → (a b : ℕ) (l m : List ℕ) (c d : Connection)
+      → Same role S (at x (some (a ∷ l)) c) (at x (some (b ∷ m)) d) → Same role S (at x (some l) (taking a c)) (at x (some m) (taking b d))
+  unfolding require
+  allocated-both x in-received a b l m c d same = later role S _ _ same (allocate 0) refl
+  allocated-both x in-opened a b l m c d same = later role S _ _ same (allocate 0) refl
+  allocated-both x in-closing a b l m c d same = later role S _ _ same (allocate 0) refl
+
+  list-both : (x : State) → Shows x → (l m : List ℕ) (c d : Connection) → Same role S (at x (some l) c) (at x (some m) d) → l ≡ m
+  list-both x g [] [] c d same = refl
+  list-both x g [] (b ∷ m) c d same = let p : answered (given 0 (some [])) ≡ answered (given 0 (some (b ∷ m))) = allocate-both x g (some []) (some (b ∷ m)) c d same in cc
+  list-both x g (a ∷ l) [] c d same = let p : answered (given 0 (some (a ∷ l))) ≡ answered (given 0 (some [])) = allocate-both x g (some (a ∷ l)) (some []) c d same in cc
+  list-both x g (a ∷ l) (b ∷ m) c d same =
+      ap₂ _∷_ (head-told a b (allocate-both x g (some (a ∷ l)) (some (b ∷ m)) c d same)) (list-both x g l m (taking a c) (taking b d) (allocated-both x g a b l m c d same))
+
+  handOut-both : (x : State) → Shows x → (l m : Option (List ℕ)) (c d : Connection) → Same role S (at x l c) (at x m d) → l ≡ m
+  handOut-both x g none none c d same = refl
+  handOut-both x g none (some m) c d same = absent-told m (allocate-both x g none (some m) c d same)
+  handOut-both x g (some l) none c d same = sym (absent-told l (sym (allocate-both x g (some l) none c d same)))
+  handOut-both x g (some l) (some m) c d same = ap some (list-both x g l m c d same)
+
+-- ---- the account
+
+-- what shows at a state is equal if it is where the state shows it
+shown : {A : Type 0} (x : State) (a b : A) → (Shows x → a ≡ b) → when (limitsShow x) a ≡ when (limitsShow x) b
+shown Start a b p = refl
+shown HeaderReceived a b p = refl
+shown HeaderSent a b p = refl
+shown HeaderExchange a b p = refl
+shown OpenPipe a b p = refl
+shown OpenClosePipe a b p = refl
+shown OpenReceived a b p = ap some (p in-received)
+shown OpenSent a b p = refl
+shown ClosePipe a b p = refl
+shown Opened a b p = ap some (p in-opened)
+shown CloseReceived a b p = ap some (p in-closing)
+shown CloseSent a b p = refl
+shown Discarding a b p = refl
+shown End a b p = refl
+
+shown-ties : (x : State) (l m : Option (List ℕ)) (c d : Connection) → (x ≡ Opened → c .ties ≡ d .ties) → account (at x l c) .ties ≡ account (at x m d) .ties
+shown-ties Start l m c d p = refl
+shown-ties HeaderReceived l m c d p = refl
+shown-ties HeaderSent l m c d p = refl
+shown-ties HeaderExchange l m c d p = refl
+shown-ties OpenPipe l m c d p = refl
+shown-ties OpenClosePipe l m c d p = refl
+shown-ties OpenReceived l m c d p = refl
+shown-ties OpenSent l m c d p = refl
+shown-ties ClosePipe l m c d p = refl
+shown-ties Opened l m c d p = ap some (p refl)
+shown-ties CloseReceived l m c d p = refl
+shown-ties CloseSent l m c d p = refl
+shown-ties Discarding l m c d p = refl
+shown-ties End l m c d p = refl
+
+and-both : (a b : Bool) → a && b ≡ true → (a ≡ true) × (b ≡ true)
+and-both true b p = (refl, p)
+and-both false b p = let z : _≡_ {A = ℕ} 0 1 = cc in absurd (omega arith)
+
+-- settings in range
+pub settings-within : (id : List ℕ) (size highest : ℕ) → settingsOk id size highest ≡ true → (512 ≤ size) × (size ≤ 16384) × (highest ≤ 255)
+unfolding settingsOk
+settings-within id size highest ok =
+    let low = and-both (leb 512 size) _ (and-both (utf8 id) _ (and-both (leb (length id) 255) _ ok .1) .1) in
+    let high = and-both (leb size 16384) (leb highest 255) (low .1) in
+    (leb-true 512 size (low .0), leb-true size 16384 (high .0), leb-true highest 255 (high .1))
+
+module _ (role : Role) (S : Settings) (ok : settingsOk (S .containerId) (S .maxFrameSize) (S .channelMax) ≡ true) (c d : Connection) (i : Reachable S c) (j : Reachable S d) where
+  apart-at : (x : State) → Same role S (at x (c .handOut) c) (at x (d .handOut) d) → account (at x (c .handOut) c) ≡ account (at x (d .handOut) d)
+  apart-at x same = λ z. record {
+    state = x;
+    readingLimit = reading-both role S (at x (c .handOut) c) (at x (d .handOut) d) i j same z;
+    taken = taken-both role S (at x (c .handOut) c) (at x (d .handOut) d) i j same z;
+    writingLimit = shown x (c .writingLimit) (d .writingLimit) (λ g. writing-both role S c d i j (c .handOut) (d .handOut) x g same) z;
+    handOut = shown x (c .handOut) (d .handOut) (λ g. handOut-both role S x g (c .handOut) (d .handOut) c d same) z;
+    ties =
+        shown-ties x (c .handOut) (d .handOut) c d
+        (λ e. ties-both role S c d i j (c .handOut) (d .handOut) (settings-within (S .containerId) (S .maxFrameSize) (S .channelMax) ok .2)
+        (subst (λ y. Same role S (at y (c .handOut) c) (at y (d .handOut) d)) e same)) z;
+  }
+
+  -- Two connections that calls lead to, of one role and with the same settings in range: if every list of calls that a caller can pass draws the same from
+  -- both, every answer and every byte of lent output, then their accounts are equal.
+  pub apart : Same role S c d → account c ≡ account d
+  apart same =
+      let at-state : Same role S c d → account c ≡ account d =
+      subst (λ y. Same role S c (at y (d .handOut) d) → account c ≡ account (at y (d .handOut) d)) (state-both role S c d i j same) (apart-at (c .state)) in
+      at-state same

@@ -1,0 +1,11 @@
+-- Worked lists of calls; laws of the rules, of channel numbers and of every connection that calls can lead to; the account theorem.
+pub mod Worked
+pub mod Rules
+pub mod Channels
+pub mod Invariant
+pub mod Forward
+pub mod Valid
+pub mod ProbeFrames
+pub mod Probes
+pub mod Apart
+pub mod Theorem

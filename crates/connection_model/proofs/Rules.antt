@@ -1,0 +1,358 @@
+-- A property of what a rule accepts, carried through the parts of a rule; and what every rule knows of the effect that it asks for.
+-- What the codec answers to given bytes is a variable here: of a read frame and of a session's frame only the bounds on their channels are used.
+-- Assumes nothing.
+use mathlib.Core.Path.{_≡_, refl, sym, _∙_, ap, subst}
+use mathlib.Core.Bool.{Bool, true, false, cond, _&&_}
+use mathlib.Core.List.{List, [], _∷_}
+use mathlib.Core.Option.{Option, none, some}
+use Prim.Native.Nat.{ℕ, zero, suc, _≤_}
+use native.Mathlib.Omega.{arith}
+use lib.Dec.{T, leb, eqb, leb→le, eqb→eq}
+use lib.ListN.{getD}
+use borrow.Author.Tests.{eq-eqb}
+use Rattle.octets.specs.Verdict.{Verdict, refuse, accept, require, andThen}
+use Rattle.protocol_header.specs.Header.{Protocol, amqp100, other, received}
+use Rattle.performatives.specs.Performative.{Performative, performative, remoteChannel}
+use Rattle.frame_decoder.specs.Frame.{Frame, frame, content, bodyIn, readFrame, within, beginsFor, anySize, anyChannel, sessionPerformative, sessionFrame}
+use Rattle.frame_encoder.specs.Frames.{Settings, ErrorText, limited}
+use Rattle.session_frame.specs.Session.{sessionBytes}
+use Rattle.connection_model.specs.States.{State, Start, HeaderReceived, HeaderSent, HeaderExchange, OpenPipe, OpenClosePipe, OpenReceived, OpenSent, ClosePipe, Opened, CloseReceived, CloseSent, Discarding, End, numbered, is, isOneOf, Move, _⇒_, along, sendHeader, receiveHeader, receiveOtherHeader, sendOpen, readOpen, sendClose, sendCloseWithError, readClose, reading, sending, silent}
+use Rattle.connection_model.specs.Connection.{Role, dialler, listener, Connection, Call, sendHeaderTo, receiveHeaderFrom, sendOpenTo, receiveFrame, sendCloseTo, sendSessionFrame, allocate, deallocate, tick, Effect, stay, go, agree, take, give, tie, takeAndTie, Outcome, headed, tieTo, untie, passOn, newSession, begun, openRead, sessionRead, performativeRead, frameRead, closes, tiedBy, sessionSent, given, released, decide}
+
+-- ---- the parts of a rule
+
+-- a verdict refuses, or accepts something with the property
+pub data Holds {A : Type 0} (P : A → Type 0) : Verdict A → Type 0 where
+  refused : {k : ℕ} → Holds P (refuse k)
+  holds : {a : A} → P a → Holds P (accept a)
+
+module _ {A : Type 0} (P : A → Type 0) where
+  pub on-require : (k : ℕ) (b : Bool) (rest : Unit {0} → Verdict A) → (T b → Holds P (rest tt)) → Holds P (require k b rest)
+  unfolding require
+  on-require k true rest h = h tt
+  on-require k false rest h = refused
+
+  pub on-cond : (b : Bool) (v w : Verdict A) → (T b → Holds P v) → Holds P w → Holds P (cond b v w)
+  on-cond true v w p q = p tt
+  on-cond false v w p q = q
+
+  pub on-andThen : {B : Type 0} {Q : B → Type 0} (f : B → Verdict A) {v : Verdict B} → Holds Q v → ((b : B) → Q b → Holds P (f b)) → Holds P (andThen v f)
+  unfolding andThen
+  on-andThen f refused g = refused
+  on-andThen f (holds q) g = g _ q
+
+  -- where nothing is known of what was found
+  pub on-any : {B : Type 0} (v : Verdict B) (f : B → Verdict A) → ((b : B) → Holds P (f b)) → Holds P (andThen v f)
+  unfolding andThen
+  on-any (refuse k) f g = refused
+  on-any (accept b) f g = g b
+
+  held : {a : A} → Holds P (accept a) → P a
+  held (holds p) = p
+
+pub accepted : {A : Type 0} {P : A → Type 0} {v : Verdict A} {a : A} → Holds P v → v ≡ accept a → P a
+accepted {P} {v} {a} h e = held P (subst (Holds P) e h)
+
+pub require-passed : {A : Type 0} (k : ℕ) (b : Bool) (rest : Unit {0} → Verdict A) → T b → require k b rest ≡ rest tt
+unfolding require
+require-passed k true rest t = refl
+require-passed k false rest t = absurd t
+
+-- ---- tests
+
+pub and-left : (a b : Bool) → T (a && b) → T a
+and-left true b t = tt
+and-left false b t = t
+
+pub and-right : (a b : Bool) → T (a && b) → T b
+and-right true b t = t
+and-right false b t = absurd t
+
+-- b passes wherever a does
+pub implied : (a b : Bool) → T (cond a b true) → T a → T b
+implied true b t u = t
+implied false b t u = absurd u
+
+either : {A : Type 0} (b d : Bool) → T (cond b true d) → (T b → A) → (T d → A) → A
+either true d t p q = p tt
+either false d t p q = q t
+
+-- ---- states
+
+-- how far a connection is: 0 before the peer's Open or Close, 1 with the peer's Open alone, 2 with both Opens, 3 with the peer's Close, 4 where nothing but a tick is written any more
+abbrev pub stage : State → ℕ
+stage Start = 0
+stage HeaderReceived = 0
+stage HeaderSent = 0
+stage HeaderExchange = 0
+stage OpenPipe = 0
+stage OpenClosePipe = 0
+stage OpenReceived = 1
+stage OpenSent = 0
+stage ClosePipe = 0
+stage Opened = 2
+stage CloseReceived = 3
+stage CloseSent = 4
+stage Discarding = 4
+stage End = 4
+
+abbrev pub states : List State
+states =
+    Start ∷ HeaderReceived ∷ HeaderSent ∷ HeaderExchange ∷ OpenPipe ∷ OpenClosePipe ∷ OpenReceived ∷ OpenSent ∷ ClosePipe ∷ Opened ∷ CloseReceived
+    ∷ CloseSent ∷ Discarding ∷ End ∷ []
+
+pub numbered-state : (x : State) → getD states (numbered x) End ≡ x
+numbered-state Start = refl
+numbered-state HeaderReceived = refl
+numbered-state HeaderSent = refl
+numbered-state HeaderExchange = refl
+numbered-state OpenPipe = refl
+numbered-state OpenClosePipe = refl
+numbered-state OpenReceived = refl
+numbered-state OpenSent = refl
+numbered-state ClosePipe = refl
+numbered-state Opened = refl
+numbered-state CloseReceived = refl
+numbered-state CloseSent = refl
+numbered-state Discarding = refl
+numbered-state End = refl
+
+pub is-state : (a b : State) → T (is a b) → a ≡ b
+is-state a b t = sym (numbered-state a) ∙ ap (λ n. getD states n End) (eqb→eq (numbered a) (numbered b) t) ∙ numbered-state b
+
+-- a test that passes at each of some states, at each row of a table
+abbrev pub each : (State → Bool) → List State → Bool
+each f [] = true
+each f (x ∷ xs) = f x && each f xs
+
+abbrev pub eachRow : (State → State → Bool) → List Move → Bool
+eachRow f [] = true
+eachRow f ((a ⇒ b) ∷ moves) = f a b && eachRow f moves
+
+pub one-of : (f : State → Bool) (xs : List State) → T (each f xs) → (x : State) → T (isOneOf xs x) → T (f x)
+one-of f [] t x u = absurd u
+one-of f (a ∷ xs) t x u =
+    either (is a x) (isOneOf xs x) u
+    (λ v. subst (λ y. T (f y)) (is-state a x v) (and-left (f a) (each f xs) t))
+    (λ v. one-of f xs (and-right (f a) (each f xs) t) x v)
+
+nth : (f : State → Bool) → T (f End) → (xs : List State) → T (each f xs) → (n : ℕ) → T (f (getD xs n End))
+nth f e [] t n = e
+nth f e (x ∷ xs) t zero = and-left (f x) (each f xs) t
+nth f e (x ∷ xs) t (suc n) = nth f e xs (and-right (f x) (each f xs) t) n
+
+-- a test that passes at each of the fourteen passes at any
+pub everywhere : (f : State → Bool) → T (f End) → T (each f states) → (x : State) → T (f x)
+everywhere f e t x = subst (λ y. T (f y)) (numbered-state x) (nth f e states t (numbered x))
+
+pub on-along : (f : State → State → Bool) (table : List Move) → T (eachRow f table) → (x : State) → Holds (λ y. T (f x y)) (along table x)
+on-along f [] t x = refused
+on-along f ((a ⇒ b) ∷ moves) t x =
+    on-cond _ (is a x) _ _
+    (λ u. holds (subst (λ y. T (f y b)) (is-state a x u) (and-left (f a b) (eachRow f moves) t)))
+    (on-along f moves (and-right (f a b) (eachRow f moves) t) x)
+
+-- no move leads to an earlier stage
+abbrev pub onward : State → State → Bool
+onward a b = leb (stage a) (stage b)
+
+-- the peer's Open comes once, and nothing that it settles was settled before
+abbrev pub opens : State → State → Bool
+opens a b = eqb (stage a) 0 && leb 1 (stage b)
+
+-- ---- channels of frames
+
+-- a frame that is read has a channel of at most the highest
+pub frame-channel : (limit highest : ℕ) (s : List ℕ) → Holds (λ f. f .channel ≤ highest) (frame limit highest s)
+unfolding frame
+frame-channel limit highest s =
+    on-require _ _ _ _ (λ t1. on-require _ _ _ _ (λ t2. on-require _ _ _ _ (λ t3. on-require _ _ _ _ (λ t4. on-require _ _ _ _ (λ t5.
+    on-require _ _ _ _ (λ t6. holds (leb→le _ _ t6)))))))
+
+pub read-channel : (limit highest : ℕ) (s : List ℕ) → Holds (λ r. r .0 .channel ≤ highest) (readFrame limit highest s)
+unfolding readFrame
+read-channel limit highest s = on-andThen _ _ (frame-channel limit highest s) (λ f le. on-any _ (content (bodyIn f s)) _ (λ p. holds le))
+
+-- a session's frame that is sent names no remote-channel above the highest
+abbrev pub NamesWithin : ℕ → Performative → Type 0
+NamesWithin highest p = T (within highest (beginsFor (eqb (p .code) 17) p))
+
+pub session-names : (highest : ℕ) (s : List ℕ) → Holds (NamesWithin highest) (sessionPerformative highest s)
+unfolding sessionPerformative
+session-names highest s =
+    on-any _ (performative s) _ (λ p. on-require _ _ _ _ (λ t1. on-require _ _ _ _ (λ t2. on-require _ _ _ _ (λ t3. holds t3))))
+
+pub sent-names : (highest : ℕ) (s : List ℕ) → Holds (λ r. NamesWithin highest (r .1)) (sessionFrame highest s)
+unfolding sessionFrame
+sent-names highest s = on-any _ (frame anySize anyChannel s) _ (λ f. on-andThen _ _ (session-names highest (bodyIn f s)) (λ p t. holds t))
+
+-- the same as equations
+pub read-highest : (limit highest : ℕ) (s : List ℕ) (f : Frame) (c : Option Performative) → readFrame limit highest s ≡ accept (f, c) → f .channel ≤ highest
+read-highest limit highest s f c e = accepted (read-channel limit highest s) e
+
+pub sent-highest : (highest : ℕ) (s : List ℕ) (f : Frame) (p : Performative) → sessionFrame highest s ≡ accept (f, p) → p .code ≡ 17 → T (within highest (remoteChannel p))
+sent-highest highest s f p e q = subst (λ b. T (within highest (beginsFor b p))) (eq-eqb (p .code) 17 q) (accepted (sent-names highest s) e)
+
+-- ---- what a rule knows of the effect that it asks for
+
+-- the handle that a call lends has the property
+abbrev pub Lends : (ℕ → Type 0) → Call → Type 0
+Lends H (sendHeaderTo out) = Unit {0}
+Lends H (receiveHeaderFrom s) = Unit {0}
+Lends H (sendOpenTo out) = Unit {0}
+Lends H (receiveFrame s h) = H h
+Lends H (sendCloseTo e out) = Unit {0}
+Lends H (sendSessionFrame s out) = Unit {0}
+Lends H (allocate h) = H h
+Lends H (deallocate ch) = Unit {0}
+Lends H (tick out) = Unit {0}
+
+pub lends-any : (call : Call) → Lends (λ h. Unit {0}) call
+lends-any (sendHeaderTo out) = tt
+lends-any (receiveHeaderFrom s) = tt
+lends-any (sendOpenTo out) = tt
+lends-any (receiveFrame s h) = tt
+lends-any (sendCloseTo e out) = tt
+lends-any (sendSessionFrame s out) = tt
+lends-any (allocate h) = tt
+lends-any (deallocate ch) = tt
+lends-any (tick out) = tt
+
+-- a tie is to a handle that holds a channel
+abbrev pub Holder : Connection → Option ℕ → Type 0
+Holder c none = Unit {0}
+Holder c (some h) = (n : ℕ) × (c .taken n ≡ some h)
+
+pub record Agrees (S : Settings) (from to : State) (m w : ℕ) : Type 0 where
+  pub first : stage from ≡ 0
+  pub opened : 1 ≤ stage to
+  pub most : m ≤ S .channelMax
+  pub low : 512 ≤ w
+  pub high : w ≤ 16384
+
+pub record Ties (S : Settings) (c : Connection) (ch : ℕ) (h : Option ℕ) : Type 0 where
+  pub open-yet : 2 ≤ stage (c .state)
+  pub most : ch ≤ S .channelMax
+  pub holder : Holder c h
+
+pub record Takes (H : ℕ → Type 0) (c : Connection) (ch : ℕ) (rest : List ℕ) (h : ℕ) : Type 0 where
+  pub next : c .handOut ≡ some (ch ∷ rest)
+  pub lent : H h
+
+abbrev pub Legit : (ℕ → Type 0) → Settings → Connection → Effect → Type 0
+Legit H S c stay = Unit {0}
+Legit H S c (go x) = stage (c .state) ≤ stage x
+Legit H S c (agree x m w) = Agrees S (c .state) x m w
+Legit H S c (take ch rest h) = Takes H c ch rest h
+Legit H S c (give ch) = (h : ℕ) × (c .taken ch ≡ some h)
+Legit H S c (tie ch h) = Ties S c ch h
+Legit H S c (takeAndTie ch rest h at) = Takes H c ch rest h × (2 ≤ stage (c .state)) × (at ≤ S .channelMax)
+
+abbrev pub Lawful : (ℕ → Type 0) → Settings → Connection → Outcome → Type 0
+Lawful H S c o = Legit H S c (o .effect)
+
+module _ (H : ℕ → Type 0) (role : Role) (S : Settings) (c : Connection) where
+  abbrev Fine : Verdict Outcome → Type 0
+  Fine v = Holds (Lawful H S c) v
+
+  -- a move along a table
+  moved : (table : List Move) → T (eachRow onward table) → (f : State → Verdict Outcome) → ((x : State) → stage (c .state) ≤ stage x → Fine (f x)) → Fine (andThen (along table (c .state)) f)
+  moved table t f g = on-andThen _ _ (on-along onward table t (c .state)) (λ x u. g x (leb→le _ _ u))
+
+  on-headed : (p : Protocol) → Fine (headed c p)
+  on-headed amqp100 = moved receiveHeader tt _ (λ x g. holds g)
+  on-headed (other h) = moved receiveOtherHeader tt _ (λ x g. holds g)
+
+  -- a frame that was read
+  module _ (f : Frame) (le : f .channel ≤ S .channelMax) where
+    on-tieTo : (p : Performative) → 2 ≤ stage (c .state) → (r : ℕ) (o : Option ℕ) → c .taken r ≡ o → Fine (tieTo f p o)
+    on-tieTo p u r none e = refused
+    on-tieTo p u r (some h) e = let l : Ties S c (f .channel) (some h) = record { open-yet = u; most = le; holder = (r, e) } in holds l
+
+    on-untie : (p : Performative) → 2 ≤ stage (c .state) → (o : Option ℕ) → Fine (untie f p o)
+    on-untie p u none = refused
+    on-untie p u (some h) = let l : Ties S c (f .channel) none = record { open-yet = u; most = le; holder = tt } in holds l
+
+    on-passOn : (p : Performative) → (o : Option ℕ) → Fine (passOn f p o)
+    on-passOn p none = refused
+    on-passOn p (some h) = holds tt
+
+    on-newSession : (ρ : Role) → 2 ≤ stage (c .state) → (h : ℕ) → H h → (l : Option (List ℕ)) → c .handOut ≡ l → Fine (newSession ρ f h l)
+    on-newSession dialler u h k l e = refused
+    on-newSession listener u h k none e = refused
+    on-newSession listener u h k (some []) e = refused
+    on-newSession listener u h k (some (ch ∷ rest)) e = let l : Takes H c ch rest h = record { next = e; lent = k } in let m : Legit H S c (takeAndTie ch rest h (f .channel)) = (l, u, le) in holds m
+
+    on-begun : (p : Performative) → 2 ≤ stage (c .state) → (h : ℕ) → H h → (rs : List ℕ) → Fine (begun role c f p h rs)
+    on-begun p u h k [] = on-newSession role u h k (c .handOut) refl
+    on-begun p u h k (r ∷ rs) = on-tieTo p u r (c .taken r) refl
+
+    on-openRead : (p : Performative) → Fine (openRead S c f p)
+    on-openRead p =
+        on-andThen _ _ (on-along opens readOpen tt (c .state)) (λ x t. holds (record {
+          first = eqb→eq _ _ (and-left (eqb (stage (c .state)) 0) (leb 1 (stage x)) t);
+          opened = leb→le _ _ (and-right (eqb (stage (c .state)) 0) (leb 1 (stage x)) t);
+          most = omega arith;
+          low = omega arith;
+          high = omega arith;
+        }))
+
+    on-sessionRead : (p : Performative) (h : ℕ) → H h → Fine (sessionRead role c f p h)
+    on-sessionRead p h k =
+        on-require _ _ _ _ (λ t.
+        let u : 2 ≤ stage (c .state) = leb→le _ _ (one-of (λ x. leb 2 (stage x)) reading tt (c .state) t) in
+        on-cond _ (eqb (p .code) 17) _ _ (λ t. on-begun p u h k (remoteChannel p))
+        (on-cond _ (eqb (p .code) 23) _ _ (λ t. on-untie p u (c .ties (f .channel))) (on-passOn p (c .ties (f .channel)))))
+
+    on-performative : (h : ℕ) → H h → (p : Performative) → Fine (performativeRead role S c f h p)
+    on-performative h k p =
+        on-cond _ (eqb (p .code) 24) _ _ (λ t. moved readClose tt _ (λ x g. holds g))
+        (on-cond _ (is Discarding (c .state)) _ _ (λ t. holds tt)
+        (on-cond _ (eqb (p .code) 16) _ _ (λ t. on-openRead p)
+        (on-sessionRead p h k)))
+
+  on-frame : (h : ℕ) → H h → (r : Frame × Option Performative) → r .0 .channel ≤ S .channelMax → Fine (frameRead role S c h r)
+  on-frame h k (f, none) le = holds tt
+  on-frame h k (f, some p) le = on-performative f le h k p
+
+  on-closes : (e : Option ErrorText) → Holds (λ x. T (onward (c .state) x)) (closes e (c .state))
+  on-closes none = on-along onward sendClose tt (c .state)
+  on-closes (some e) = on-along onward sendCloseWithError tt (c .state)
+
+  -- a session's frame that is sent
+  on-tiedBy : (ρ : Role) (rs : List ℕ) → T (within (S .channelMax) rs) → 2 ≤ stage (c .state) → (n : ℕ) (o : Option ℕ) → c .taken n ≡ o → Holds (Legit H S c) (tiedBy ρ rs o)
+  on-tiedBy dialler rs t u n o e = holds tt
+  on-tiedBy listener [] t u n o e = holds tt
+  on-tiedBy listener (r ∷ rs) t u n none e = refused
+  on-tiedBy listener (r ∷ rs) t u n (some h) e =
+      let l : Ties S c r (some h) = record { open-yet = u; most = leb→le _ _ (and-left (leb r (S .channelMax)) (within (S .channelMax) rs) t); holder = (n, e) } in
+      holds l
+
+  on-sent : (s : List ℕ) (r : Frame × Performative) → NamesWithin (S .channelMax) (r .1) → Fine (sessionSent role c s r)
+  on-sent s r t =
+      on-require _ _ _ _ (λ i.
+      let u : 2 ≤ stage (c .state) = leb→le _ _ (one-of (λ x. leb 2 (stage x)) sending tt (c .state) i) in
+      on-andThen _ _ (on-tiedBy role (beginsFor (eqb (r .1 .code) 17) (r .1)) t u (r .0 .channel) (c .taken (r .0 .channel)) refl) (λ e l.
+      on-any _ (limited (c .writingLimit) (sessionBytes s r)) _ (λ bytes. holds l)))
+
+  on-given : (h : ℕ) → H h → (l : Option (List ℕ)) → c .handOut ≡ l → Fine (given h l)
+  on-given h k none e = refused
+  on-given h k (some []) e = refused
+  on-given h k (some (ch ∷ rest)) e = let l : Takes H c ch rest h = record { next = e; lent = k } in holds l
+
+  on-released : (ch : ℕ) (o : Option ℕ) → c .taken ch ≡ o → Fine (released ch o)
+  on-released ch none e = refused
+  on-released ch (some h) e = let l : Legit H S c (give ch) = (h, e) in holds l
+
+  -- every call's effect is lawful
+  pub lawful : (call : Call) → Lends H call → Holds (Lawful H S c) (decide role S c call)
+  lawful (sendHeaderTo out) k = on-require _ _ _ _ (λ t. moved sendHeader tt _ (λ x g. holds g))
+  lawful (receiveHeaderFrom s) k = on-any _ (received s) _ on-headed
+  lawful (sendOpenTo out) k = on-require _ _ _ _ (λ t. moved sendOpen tt _ (λ x g. on-any _ _ _ (λ bytes. holds g)))
+  lawful (receiveFrame s h) k = on-andThen _ _ (read-channel (c .readingLimit) (S .channelMax) s) (on-frame h k)
+  lawful (sendCloseTo e out) k =
+      on-require _ _ _ _ (λ t. on-require _ _ _ _ (λ u. on-andThen _ _ (on-closes e) (λ x g. on-any _ _ _ (λ bytes. holds (leb→le _ _ g)))))
+  lawful (sendSessionFrame s out) k = on-require _ _ _ _ (λ t. on-andThen _ _ (sent-names (S .channelMax) s) (on-sent s))
+  lawful (allocate h) k = on-require _ _ _ _ (λ t. on-given h k (c .handOut) refl)
+  lawful (deallocate ch) k = on-released ch (c .taken ch) refl
+  lawful (tick out) k = on-require _ _ _ _ (λ t. on-cond _ (is End (c .state)) _ _ (λ u. holds tt) (on-cond _ (isOneOf silent (c .state)) _ _ (λ u. holds tt) (holds tt)))

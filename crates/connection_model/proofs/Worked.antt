@@ -1,0 +1,64 @@
+-- Worked lists of calls, computed from the definitions.
+-- Assumes nothing.
+use mathlib.Core.Path.{_≡_, refl}
+use mathlib.Core.Bool.{Bool, true, false}
+use mathlib.Core.List.{List, [], _∷_, _++_, map}
+use mathlib.Core.Option.{Option, none, some}
+use Prim.Native.Nat.{ℕ}
+use lib.ListN.{replicate}
+use Rattle.octets.specs.Verdict.{Verdict, refuse, accept, require, andThen}
+use Rattle.octets.specs.Octets.{bigEndianFrom, bigEndian, bytesOf, startsWith}
+use Rattle.octets.specs.Output.{roomFor, laid}
+use Rattle.protocol_header.specs.Header.{isProtocolId, protocolId, startsWith as startsWithAll, header as headerOf, hasId, isAmqp100, protocol, received, headerBytes, writeHeader}
+use Rattle.values.specs.Value.{plus, followedBy, times, codes, kindIn, kindOf, bytes as bytesAt, numberIn, booleanEnd, variableEnd, pairedIn, opening, items, compoundEnd, body, afterCode, level, run as runOf, valueEnd}
+use Rattle.performatives.specs.Fields.{fieldsIn, fieldsOf}
+use Rattle.performatives.specs.Performative.{descriptor, performativeBy, fieldsBy, numberOf, sized, listAt, described, split, errorShape, isError, hasType, fits, fit, rowsFor, performative, numberOr, remoteChannel, startOf, conditionAt, condition, valuesIn, valuesOf}
+use Rattle.frame_decoder.specs.Frame.{frame, bodyIn, content, readFrame, sessionPerformative, sessionFrame}
+use Rattle.serializer.specs.Written.{uint, ushort, textHeader, text, listHeader, joined, trimmed, compositeHeader, composite}
+use Rattle.frame_encoder.specs.Frames.{Settings, frameHeader, frameBytes, limited, idleField, openFields, errorField}
+use Rattle.connection_model.specs.States.{State, Opened}
+use Rattle.connection_model.specs.Connection.{dialler, listener, fresh, Call, sendHeaderTo, receiveHeaderFrom, sendOpenTo, receiveFrame, allocate, deallocate, tick, Answer, wrote, header, nothingToDo, opened, forward, channel, freed, Seen, run, seenIn}
+
+abbrev answersOf : List Seen → List (Verdict Answer)
+answersOf [] = []
+answersOf (s ∷ ss) = s .answer ∷ answersOf ss
+
+out : List ℕ
+out = replicate 16384 0
+
+amqp : List ℕ
+amqp = 0x41 ∷ 0x4D ∷ 0x51 ∷ 0x50 ∷ 0x00 ∷ 0x01 ∷ 0x00 ∷ 0x00 ∷ []
+
+settings : Settings
+settings = record { containerId = 0x70 ∷ 0x31 ∷ []; maxFrameSize = 4096; channelMax = 7; idleTimeOut = none }
+
+-- container-id h, channel-max 3
+peerOpen : List ℕ
+peerOpen = 0 ∷ 0 ∷ 0 ∷ 0x16 ∷ 2 ∷ 0 ∷ 0 ∷ 0 ∷ 0 ∷ 0x53 ∷ 0x10 ∷ 0xC0 ∷ 9 ∷ 4 ∷ 0xA1 ∷ 1 ∷ 0x68 ∷ 0x40 ∷ 0x40 ∷ 0x60 ∷ 0 ∷ 3 ∷ []
+
+-- a Begin on channel 5 for the outgoing channel 2
+beginFor2 : List ℕ
+beginFor2 = 0 ∷ 0 ∷ 0 ∷ 0x14 ∷ 2 ∷ 0 ∷ 0 ∷ 5 ∷ 0 ∷ 0x53 ∷ 0x11 ∷ 0xC0 ∷ 7 ∷ 4 ∷ 0x60 ∷ 0 ∷ 2 ∷ 0x43 ∷ 0x43 ∷ 0x43 ∷ []
+
+attachOn5 : List ℕ
+attachOn5 = 0 ∷ 0 ∷ 0 ∷ 0x0C ∷ 2 ∷ 0 ∷ 0 ∷ 5 ∷ 0 ∷ 0x53 ∷ 0x12 ∷ 0x45 ∷ []
+
+toOpened : List Call
+toOpened = sendHeaderTo out ∷ receiveHeaderFrom amqp ∷ sendOpenTo out ∷ receiveFrame peerOpen 0 ∷ []
+
+-- local channel-max 7, the peer's 3: 0, 1, 2, 3, then 23; free 1, then 3: next 3, then 1
+channels : List Call
+channels = allocate 10 ∷ allocate 11 ∷ allocate 12 ∷ allocate 13 ∷ allocate 14 ∷ deallocate 1 ∷ deallocate 3 ∷ allocate 15 ∷ allocate 16 ∷ []
+
+-- Begin on 5 for 2, free 2: Attach on 5 still reaches the old handle, and Begin for 2 is 24
+late : List Call
+late = receiveFrame beginFor2 0 ∷ deallocate 2 ∷ receiveFrame attachOn5 0 ∷ receiveFrame beginFor2 0 ∷ []
+
+whole-life :
+    answersOf (seenIn dialler settings fresh (toOpened ++ (channels ++ late)))
+    ≡ accept (wrote 8) ∷ accept (header 8) ∷ accept (wrote 27) ∷ accept (opened 22 0)
+    ∷ accept (channel 0) ∷ accept (channel 1) ∷ accept (channel 2) ∷ accept (channel 3) ∷ refuse 23 ∷ accept (freed 11) ∷ accept (freed 13) ∷ accept (channel 3) ∷ accept (channel 1)
+    ∷ accept (forward 20 17 12 8 12) ∷ accept (freed 12) ∷ accept (forward 12 18 12 8 4) ∷ refuse 24
+    ∷ []
+unfolding toOpened channels late settings amqp peerOpen beginFor2 attachOn5 out require andThen bigEndianFrom bigEndian bytesOf startsWith roomFor isProtocolId protocolId startsWithAll headerOf hasId isAmqp100 protocol received headerBytes plus followedBy times codes kindIn kindOf bytesAt numberIn booleanEnd variableEnd pairedIn opening items compoundEnd body afterCode level runOf valueEnd fieldsIn fieldsOf numberOf sized listAt described split errorShape isError hasType fits fit rowsFor performative numberOr remoteChannel startOf conditionAt condition frame bodyIn content readFrame uint ushort textHeader text listHeader joined trimmed compositeHeader composite frameHeader frameBytes limited idleField openFields errorField descriptor performativeBy fieldsBy
+whole-life = refl
