@@ -146,9 +146,10 @@ checked-from (r ∷ rows) (suc k) s fs e h =
     let a = split-was 16 k s fs e in
     let g = rw (a .both) at h in
     let m : suc k - 1 ≡ k = omega arith in
-    rw (first-is k (a .size) s (a .ends), first-len-is k (a .size) s (a .ends), m)
-    (sized-fits s (a .size) (a .ends) (r .type) (r .mandatory) (and-first (fits (r .type) (r .mandatory) (take (a .size) s)) _ g),
-    checked-from rows k (drop (a .size) s) (a .others) (a .splits) (and-second (fits (r .type) (r .mandatory) (take (a .size) s)) _ g))
+    rw (first-is k (a .size) s (a .ends), first-len-is k (a .size) s (a .ends), m) (
+      sized-fits s (a .size) (a .ends) (r .type) (r .mandatory) (and-first (fits (r .type) (r .mandatory) (take (a .size) s)) _ g),
+      checked-from rows k (drop (a .size) s) (a .others) (a .splits) (and-second (fits (r .type) (r .mandatory) (take (a .size) s)) _ g),
+    )
 
 -- ---- the performative
 

@@ -231,7 +231,8 @@ fn error_parts(f: &[u8]) -> ErrorParts
         count,
         from,
         end,
-    } = performatives::described_list(f) else {
+    } = performatives::described_list(f)
+    else {
         return ErrorParts::Malformed;
     };
     let items = &f[from..end];
@@ -276,7 +277,8 @@ fn error_size(f: &[u8]) -> Size
         end,
         count,
         len,
-    } = error_parts(f) else {
+    } = error_parts(f)
+    else {
         return Size { len: 1, null: true };
     };
     let size = parts_len(f, from, end, len);
@@ -295,7 +297,8 @@ fn put_error(out: &mut [u8], at: usize, f: &[u8])
         end,
         count,
         len,
-    } = error_parts(f) else {
+    } = error_parts(f)
+    else {
         put_null(out, at);
         return;
     };
@@ -401,7 +404,8 @@ fn trim_fields(s: &[u8], code: u64, i: usize, count: u32) -> Kept
         kind,
         mandatory: _,
         default,
-    } = performatives::field_row(code, i) else {
+    } = performatives::field_row(code, i)
+    else {
         return Kept { count: 0, len: 0 };
     };
     let n = first_len(s, count);
@@ -422,7 +426,8 @@ fn put_fields(out: &mut [u8], at: usize, s: &[u8], code: u64, i: usize, count: u
         kind,
         mandatory: _,
         default,
-    } = performatives::field_row(code, i) else {
+    } = performatives::field_row(code, i)
+    else {
         return;
     };
     let n = first_len(s, count);
@@ -460,7 +465,15 @@ fn put_frame(out: &mut [u8], body: &[u8], channel: u16, size: u32, plan: Plan)
     let from = plan.from;
     let end = plan.end;
     let at = put_head(out, channel, size, plan);
-    put_fields(out, at, &body[from..end], plan.code, 0, plan.count, plan.kept);
+    put_fields(
+        out,
+        at,
+        &body[from..end],
+        plan.code,
+        0,
+        plan.count,
+        plan.kept,
+    );
     octets::copy(out, at + plan.len, &body[end..]);
 }
 
@@ -473,7 +486,8 @@ fn write_body(out: &mut [u8], body: &[u8], channel: u16, limit: u32) -> Written
         count,
         from,
         end,
-    } = performatives::described_list(body) else {
+    } = performatives::described_list(body)
+    else {
         return Written::Refused(6);
     };
     let kept = trim_fields(&body[from..end], code, 0, count);

@@ -1,0 +1,62 @@
+// Text and numbers in columns, on standard output.
+use libc::STDOUT_FILENO;
+
+pub(crate) fn print(text: &[u8]) {
+    io::write_all(STDOUT_FILENO, text);
+}
+
+pub(crate) fn decimal(n: u64) {
+    io::print_decimal(STDOUT_FILENO, n);
+}
+
+// The part of s from one place to another; nothing where s has no such part.
+pub(crate) fn part(s: &[u8], from: usize, end: usize) -> &[u8] {
+    if end < from {
+        return &s[..0];
+    }
+    if s.len() < end {
+        return &s[..0];
+    }
+    &s[from..end]
+}
+
+// How many digits a number has, up to six.
+fn digits(n: u64) -> usize {
+    if n < 10 {
+        return 1;
+    }
+    if n < 100 {
+        return 2;
+    }
+    if n < 1000 {
+        return 3;
+    }
+    if n < 10000 {
+        return 4;
+    }
+    if n < 100000 {
+        return 5;
+    }
+    6
+}
+
+fn blanks(n: usize) {
+    print(part(b"              ", 0, n));
+}
+
+// A number, right-aligned.
+pub(crate) fn number(n: u64, width: usize) {
+    let d = digits(n);
+    if d < width {
+        blanks(width - d);
+    }
+    decimal(n);
+}
+
+// A word, left-aligned.
+pub(crate) fn word(text: &[u8], width: usize) {
+    print(text);
+    if text.len() < width {
+        blanks(width - text.len());
+    }
+}
