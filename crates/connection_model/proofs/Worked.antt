@@ -17,7 +17,7 @@ use Rattle.frame_decoder.specs.Frame.{frame, bodyIn, content, readFrame, sessio
 use Rattle.serializer.specs.Written.{uint, ushort, textHeader, text, listHeader, joined, trimmed, compositeHeader, composite}
 use Rattle.frame_encoder.specs.Frames.{Settings, frameHeader, frameBytes, limited, idleField, openFields, errorField}
 use Rattle.connection_model.specs.States.{State, Opened}
-use Rattle.connection_model.specs.Connection.{dialler, listener, fresh, Call, sendHeaderTo, receiveHeaderFrom, sendOpenTo, receiveFrame, allocate, deallocate, tick, Answer, wrote, header, nothingToDo, opened, forward, channel, freed, Seen, run, seenIn}
+use Rattle.connection_model.specs.Connection.{dialler, listener, fresh, Call, sendHeaderTo, receiveHeaderFrom, sendOpenTo, receiveFrame, sendCloseTo, allocate, deallocate, tick, Answer, wrote, stop, header, nothingToDo, opened, closed, forward, channel, freed, Seen, run, seenIn}
 
 abbrev answersOf : List Seen → List (Verdict Answer)
 answersOf [] = []
@@ -62,3 +62,39 @@ whole-life :
     ∷ []
 unfolding toOpened channels late settings amqp peerOpen beginFor2 attachOn5 out require andThen bigEndianFrom bigEndian bytesOf startsWith roomFor isProtocolId protocolId startsWithAll headerOf hasId isAmqp100 protocol received headerBytes plus followedBy times codes kindIn kindOf bytesAt numberIn booleanEnd variableEnd pairedIn opening items compoundEnd body afterCode level runOf valueEnd fieldsIn fieldsOf numberOf sized listAt described split errorShape isError hasType fits fit rowsFor performative numberOr remoteChannel startOf conditionAt condition frame bodyIn content readFrame uint ushort textHeader text listHeader joined trimmed compositeHeader composite frameHeader frameBytes limited idleField openFields errorField descriptor performativeBy fieldsBy
 whole-life = refl
+
+-- a Begin on channel 5 for the outgoing channel 0, an End on 5, a Close, and a header with id 1
+beginFor0 : List ℕ
+beginFor0 = 0 ∷ 0 ∷ 0 ∷ 0x14 ∷ 2 ∷ 0 ∷ 0 ∷ 5 ∷ 0 ∷ 0x53 ∷ 0x11 ∷ 0xC0 ∷ 7 ∷ 4 ∷ 0x60 ∷ 0 ∷ 0 ∷ 0x43 ∷ 0x43 ∷ 0x43 ∷ []
+
+endOn5 : List ℕ
+endOn5 = 0 ∷ 0 ∷ 0 ∷ 0x0C ∷ 2 ∷ 0 ∷ 0 ∷ 5 ∷ 0 ∷ 0x53 ∷ 0x17 ∷ 0x45 ∷ []
+
+close : List ℕ
+close = 0 ∷ 0 ∷ 0 ∷ 0x0C ∷ 2 ∷ 0 ∷ 0 ∷ 0 ∷ 0 ∷ 0x53 ∷ 0x18 ∷ 0x45 ∷ []
+
+malformed : List ℕ
+malformed = 0x41 ∷ 0x4D ∷ 0x51 ∷ 0x50 ∷ 0x01 ∷ 0x01 ∷ 0x00 ∷ 0x00 ∷ []
+
+-- the case that the users fear: a session is ended, its channel number is given out a second time, and a late Begin for that number comes. Frames on its incoming
+-- channel then reach the new session's handle, 20, and no longer the old one's, 10
+late-begin :
+    answersOf
+    (seenIn dialler settings (run dialler settings fresh toOpened)
+    (allocate 10 ∷ receiveFrame beginFor0 0 ∷ receiveFrame attachOn5 0 ∷ receiveFrame endOn5 0 ∷ receiveFrame attachOn5 0 ∷ deallocate 0 ∷ receiveFrame beginFor0 0
+    ∷ allocate 20 ∷ receiveFrame attachOn5 0 ∷ receiveFrame beginFor0 0 ∷ receiveFrame attachOn5 0 ∷ receiveFrame endOn5 0 ∷ []))
+    ≡ accept (channel 0) ∷ accept (forward 20 17 10 8 12) ∷ accept (forward 12 18 10 8 4) ∷ accept (forward 12 23 10 8 4) ∷ refuse 24 ∷ accept (freed 10) ∷ refuse 24
+    ∷ accept (channel 0) ∷ refuse 24 ∷ accept (forward 20 17 20 8 12) ∷ accept (forward 12 18 20 8 4) ∷ accept (forward 12 23 20 8 4) ∷ []
+unfolding toOpened beginFor0 attachOn5 endOn5 settings amqp peerOpen out require andThen bigEndianFrom bigEndian bytesOf startsWith roomFor isProtocolId protocolId startsWithAll headerOf hasId isAmqp100 protocol received headerBytes plus followedBy times codes kindIn kindOf bytesAt numberIn booleanEnd variableEnd pairedIn opening items compoundEnd body afterCode level runOf valueEnd fieldsIn fieldsOf numberOf sized listAt described split errorShape isError hasType fits fit rowsFor performative numberOr remoteChannel startOf conditionAt condition frame bodyIn content readFrame uint ushort textHeader text listHeader joined trimmed compositeHeader composite frameHeader frameBytes limited idleField openFields errorField descriptor performativeBy fieldsBy
+late-begin = refl
+
+-- a malformed header leaves HeaderSent as it is; a Close is sent and read, a tick writes nothing in CloseSent and says stop in End
+header-and-close :
+    answersOf
+    (seenIn dialler settings fresh
+    (sendHeaderTo out ∷ receiveHeaderFrom malformed ∷ receiveHeaderFrom amqp ∷ sendOpenTo out ∷ tick out ∷ receiveFrame peerOpen 0 ∷ sendCloseTo none out ∷ tick out
+    ∷ allocate 1 ∷ receiveFrame attachOn5 0 ∷ receiveFrame close 0 ∷ tick out ∷ receiveFrame close 0 ∷ []))
+    ≡ accept (wrote 8) ∷ refuse 2 ∷ accept (header 8) ∷ accept (wrote 27) ∷ accept (wrote 8) ∷ accept (opened 22 0) ∷ accept (wrote 12) ∷ accept (wrote 0)
+    ∷ refuse 22 ∷ refuse 20 ∷ accept (closed 12 false) ∷ accept stop ∷ refuse 20 ∷ []
+unfolding malformed close attachOn5 settings amqp peerOpen out require andThen bigEndianFrom bigEndian bytesOf startsWith roomFor isProtocolId protocolId startsWithAll headerOf hasId isAmqp100 protocol received headerBytes plus followedBy times codes kindIn kindOf bytesAt numberIn booleanEnd variableEnd pairedIn opening items compoundEnd body afterCode level runOf valueEnd fieldsIn fieldsOf numberOf sized listAt described split errorShape isError hasType fits fit rowsFor performative numberOr remoteChannel startOf conditionAt condition frame bodyIn content readFrame uint ushort textHeader text listHeader joined trimmed compositeHeader composite frameHeader frameBytes limited idleField openFields errorField descriptor performativeBy fieldsBy
+header-and-close = refl
