@@ -16,7 +16,7 @@ use protocol_header::HeaderRead;
 use protocol_header::ProtocolHeader;
 use values::Value;
 
-// An answer's words, the rest of them `NO`.
+// An answer's words in their order, `NO` passed over.
 pub(crate) type Answer = [u64; 10];
 
 const LETTERS: u64 = 0x8000_0000_0000_0000;
@@ -64,32 +64,26 @@ const DETACH: u64 = 0x8000_6465_7461_6368;
 
 const CLOSE: u64 = 0x8000_0063_6c6f_7365;
 
-// neither of these is an answer that a case expects
+// none of these is an answer that a case expects
+const DIFFERS: u64 = 0x8064_6966_6665_7273;
+
 const TOUCHED: u64 = 0x8074_6f75_6368_6564;
 
-const MALFORMED: u64 = 0xed61_6c66_6f72_6d65;
-
-fn one(w: u64) -> Answer {
-    [w, NO, NO, NO, NO, NO, NO, NO, NO, NO]
-}
+const BADLINE: u64 = 0x8062_6164_6c69_6e65;
 
 fn two(w: u64, n: u64) -> Answer {
     [w, n, NO, NO, NO, NO, NO, NO, NO, NO]
 }
 
-fn refused(k: u8) -> Answer {
-    two(REFUSED, k as u64)
-}
-
-pub(crate) fn malformed() -> Answer {
-    one(MALFORMED)
+pub(crate) fn bad_line() -> Answer {
+    two(BADLINE, NO)
 }
 
 pub(crate) fn yes_or_no(yes: bool) -> Answer {
     if yes {
-        return one(YES);
+        return two(YES, NO);
     }
-    one(NOT)
+    two(NOT, NO)
 }
 
 fn other(h: ProtocolHeader) -> Answer {
@@ -111,43 +105,114 @@ fn other(h: ProtocolHeader) -> Answer {
 
 pub(crate) fn header(r: HeaderRead) -> Answer {
     match r {
-        HeaderRead::Amqp => one(AMQP),
+        HeaderRead::Amqp => two(AMQP, NO),
         HeaderRead::Other(h) => other(h),
-        HeaderRead::Malformed => refused(2),
-        HeaderRead::Missing => refused(1),
+        HeaderRead::Malformed => two(REFUSED, 2),
+        HeaderRead::Missing => two(REFUSED, 1),
     }
 }
 
 pub(crate) fn value(v: Value) -> Answer {
     match v {
         Value::End(n) => two(END, n as u64),
-        Value::Malformed => refused(6),
+        Value::Malformed => two(REFUSED, 6),
     }
 }
 
-fn begin(r: RemoteChannel, end: u64) -> [u64; 6] {
+// The words in front of a performative's.
+struct Front {
+    what: u64,
+    channel: u64,
+    size: u64,
+    from: u64,
+}
+
+fn begin(f: Front, r: RemoteChannel, end: u64) -> Answer {
     match r {
-        RemoteChannel::Absent => [BEGIN, NONE, END, end, NO, NO],
-        RemoteChannel::Is(n) => [BEGIN, n as u64, END, end, NO, NO],
+        RemoteChannel::Absent => [
+            f.what,
+            f.channel,
+            f.size,
+            f.from,
+            BEGIN,
+            NONE,
+            END,
+            end,
+            NO,
+            NO,
+        ],
+        RemoteChannel::Is(n) => [
+            f.what,
+            f.channel,
+            f.size,
+            f.from,
+            BEGIN,
+            n as u64,
+            END,
+            end,
+            NO,
+            NO,
+        ],
     }
 }
 
 // The place and the length of an error's condition.
-fn error(name: u64, c: Condition, end: u64) -> [u64; 6] {
+fn error(f: Front, name: u64, c: Condition, end: u64) -> Answer {
     match c {
-        Condition::Absent => [name, NONE, END, end, NO, NO],
-        Condition::At { from, len } => [name, ERROR, from as u64, len as u64, END, end],
+        Condition::Absent => [
+            f.what,
+            f.channel,
+            f.size,
+            f.from,
+            name,
+            NONE,
+            END,
+            end,
+            NO,
+            NO,
+        ],
+        Condition::At { from, len } => [
+            f.what,
+            f.channel,
+            f.size,
+            f.from,
+            name,
+            ERROR,
+            from as u64,
+            len as u64,
+            END,
+            end,
+        ],
     }
 }
 
+fn plain(f: Front, name: u64, end: u64) -> Answer {
+    [
+        f.what,
+        f.channel,
+        f.size,
+        f.from,
+        name,
+        END,
+        end,
+        NO,
+        NO,
+        NO,
+    ]
+}
+
 // A performative, and where it ends.
-fn performative(p: Performative, end: u64) -> [u64; 6] {
+fn performative(f: Front, p: Performative, end: u64) -> Answer {
     match p {
         Performative::Open {
             max_frame_size,
             channel_max,
             idle_time_out,
         } => [
+            f.what,
+            f.channel,
+            f.size,
+            f.from,
             OPEN,
             max_frame_size as u64,
             channel_max as u64,
@@ -155,14 +220,14 @@ fn performative(p: Performative, end: u64) -> [u64; 6] {
             END,
             end,
         ],
-        Performative::Begin(r) => begin(r, end),
-        Performative::Attach => [ATTACH, END, end, NO, NO, NO],
-        Performative::Flow => [FLOW, END, end, NO, NO, NO],
-        Performative::Transfer => [TRANSFER, END, end, NO, NO, NO],
-        Performative::Disposition => [DISPOSITION, END, end, NO, NO, NO],
-        Performative::Detach(c) => error(DETACH, c, end),
-        Performative::End(c) => error(END, c, end),
-        Performative::Close(c) => error(CLOSE, c, end),
+        Performative::Begin(r) => begin(f, r, end),
+        Performative::Attach => plain(f, ATTACH, end),
+        Performative::Flow => plain(f, FLOW, end),
+        Performative::Transfer => plain(f, TRANSFER, end),
+        Performative::Disposition => plain(f, DISPOSITION, end),
+        Performative::Detach(c) => error(f, DETACH, c, end),
+        Performative::End(c) => error(f, END, c, end),
+        Performative::Close(c) => error(f, CLOSE, c, end),
     }
 }
 
@@ -172,16 +237,21 @@ pub(crate) fn body(b: Body) -> Answer {
             performative: p,
             end,
         } => {
-            let w = performative(p, end as u64);
-            [w[0], w[1], w[2], w[3], w[4], w[5], NO, NO, NO, NO]
+            let f = Front {
+                what: NO,
+                channel: NO,
+                size: NO,
+                from: NO,
+            };
+            performative(f, p, end as u64)
         }
-        Body::Malformed => refused(6),
+        Body::Malformed => two(REFUSED, 6),
     }
 }
 
 pub(crate) fn frame(f: Frame) -> Answer {
     match f {
-        Frame::Refused(k) => refused(k),
+        Frame::Refused(k) => two(REFUSED, k as u64),
         Frame::Empty {
             channel,
             size,
@@ -205,19 +275,13 @@ pub(crate) fn frame(f: Frame) -> Answer {
             performative: p,
             end,
         } => {
-            let w = performative(p, end as u64);
-            [
-                FRAME,
-                channel as u64,
-                size as u64,
-                from as u64,
-                w[0],
-                w[1],
-                w[2],
-                w[3],
-                w[4],
-                w[5],
-            ]
+            let f = Front {
+                what: FRAME,
+                channel: channel as u64,
+                size: size as u64,
+                from: from as u64,
+            };
+            performative(f, p, end as u64)
         }
     }
 }
@@ -225,7 +289,7 @@ pub(crate) fn frame(f: Frame) -> Answer {
 pub(crate) fn frames(f: Frames) -> Answer {
     match f {
         Frames::Are(n) => two(FRAMES, n as u64),
-        Frames::Refused(k) => refused(k),
+        Frames::Refused(k) => two(REFUSED, k as u64),
     }
 }
 
@@ -268,55 +332,51 @@ fn print_bytes(s: &[u8]) {
     io::write_all(STDOUT_FILENO, b"\n");
 }
 
-// What was written to an output that held the pattern: `wrote` where it is what the case expects. Else the bytes are printed, and `wrote` has their number.
-pub(crate) fn written(w: Written, out: &[u8], expected: &[u8]) -> Answer {
-    let Written::Bytes(n) = w else {
-        return unwritten(w, out);
-    };
-    if !untouched(out, n) {
-        return two(TOUCHED, n as u64);
-    }
-    if check::same(part(out, 0, n), expected) {
-        return one(WROTE);
-    }
-    print_bytes(part(out, 0, n));
-    two(WROTE, n as u64)
-}
-
-fn unwritten(w: Written, out: &[u8]) -> Answer {
-    let Written::Refused(k) = w else {
-        return malformed();
-    };
-    if untouched(out, 0) {
-        return refused(k);
-    }
-    two(TOUCHED, k as u64)
-}
-
-// A word of an expected answer. What stands after `wrote` is bytes, and no word.
-fn expected(wanted: &[u8], i: usize) -> u64 {
-    if 0 < i {
-        if check::same(word(wanted, 0), b"wrote") {
-            return NO;
+// What was written to an output that held the pattern. `wanted` has `wrote` and the bytes that should be there, in words and as they are.
+pub(crate) fn written(w: Written, out: &[u8], wanted: &[u8], bytes: &[u8]) -> Answer {
+    match w {
+        Written::Bytes(n) => {
+            if !untouched(out, n) {
+                return two(TOUCHED, n as u64);
+            }
+            if check::same(part(out, 0, n), bytes) {
+                return two(WROTE, meant(word(wanted, 1)));
+            }
+            print_bytes(part(out, 0, n));
+            two(DIFFERS, n as u64)
+        }
+        Written::Refused(k) => {
+            if !untouched(out, 0) {
+                return two(TOUCHED, k as u64);
+            }
+            two(REFUSED, k as u64)
         }
     }
-    let w = word(wanted, i);
+}
+
+// What a word stands for.
+fn meant(w: &[u8]) -> u64 {
     if is_number(w) {
         return number(w);
     }
     std::num::wrapping_add_u64(LETTERS, octets::number(w))
 }
 
-// Whether an answer has the words that are wanted.
+// Whether an answer's words are those wanted.
 pub(crate) fn agrees(a: &Answer, wanted: &[u8]) -> bool {
+    let mut n: usize = 0;
     let mut i: usize = 0;
     while i < 10 {
-        if a[i] != expected(wanted, i) {
-            return false;
+        let w = a[i];
+        if w != NO {
+            if w != meant(word(wanted, n)) {
+                return false;
+            }
+            n += 1;
         }
         i += 1;
     }
-    true
+    word(wanted, n).len() == 0
 }
 
 fn print_letters(w: u64) {

@@ -19,7 +19,7 @@
 //   w       session_frame::write                   room, limit, highest channel; frame
 //
 // The room is how many bytes of output are lent. They hold a pattern at first, and where the call changes one that it does not count as written the
-// answer is `touched`.
+// answer is `touched`. A line that is no case is answered `badline`.
 mod answers;
 mod runs;
 mod words;
@@ -86,10 +86,10 @@ fn judge(line: &[u8], number: u64) -> Outcome {
     }
     print(b"line ");
     print_number(number);
-    print(b": wanted");
-    print(wanted);
-    print(b"and got");
+    print(b": got");
     answers::print(&a);
+    print(b" and wanted");
+    print(wanted);
     print(b"\n");
     Outcome::Wrong
 }
@@ -137,6 +137,9 @@ fn main() {
     let n = io::read_full(0, &mut text);
     let mut line = text_buffer();
     let tally = run_lines(part(&text, 0, n), &mut line);
+    if n == 1_048_576 {
+        print(b"cases: only the first 1048576 bytes were read\n");
+    }
     print(b"cases: ");
     print_number(tally.run);
     print(b" run, ");

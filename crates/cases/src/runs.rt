@@ -34,13 +34,6 @@ fn strings(letter: u8) -> u8 {
     }
 }
 
-fn writes(letter: u8) -> bool {
-    match letter {
-        b'o' | b'c' | b'e' | b't' | b'w' => true,
-        _ => false,
-    }
-}
-
 fn fits(w: &[u8], numeric: bool) -> bool {
     if numeric {
         return is_number(w);
@@ -78,12 +71,6 @@ fn read(letter: u8, line: &[u8], s: &[u8]) -> Answer {
     }
 }
 
-fn read_bytes(letter: u8, line: &[u8], w: &[u8]) -> Answer {
-    let mut s = io::large_buffer();
-    let n = bytes(w, &mut s);
-    read(letter, line, part(&s, 0, n))
-}
-
 fn idle(line: &[u8]) -> IdleTimeOut {
     if number(word(line, 5)) == 0 {
         return IdleTimeOut::Never;
@@ -91,13 +78,11 @@ fn idle(line: &[u8]) -> IdleTimeOut {
     IdleTimeOut::Millis(number32(word(line, 6)))
 }
 
-fn write_open(line: &[u8], limit: u32, out: &mut [u8]) -> Written {
-    let mut id = io::buffer();
-    let n = bytes(word(line, 7), &mut id);
+fn write_open(line: &[u8], container_id: &[u8], limit: u32, out: &mut [u8]) -> Written {
     let max_frame_size = number32(word(line, 3));
     let channel_max = number16(word(line, 4));
     frame_encoder::write_open(
-        part(&id, 0, n),
+        container_id,
         max_frame_size,
         channel_max,
         idle(line),
@@ -106,69 +91,67 @@ fn write_open(line: &[u8], limit: u32, out: &mut [u8]) -> Written {
     )
 }
 
-fn write_close_with_error(line: &[u8], limit: u32, out: &mut [u8]) -> Written {
-    let mut condition = io::buffer();
+fn write_close_with_error(line: &[u8], condition: &[u8], limit: u32, out: &mut [u8]) -> Written {
     let mut description = io::buffer();
-    let n = bytes(word(line, 4), &mut condition);
-    let m = bytes(word(line, 5), &mut description);
+    let n = bytes(word(line, 5), &mut description);
     let described = number(word(line, 3)) != 0;
     frame_encoder::write_close_with_error(
-        part(&condition, 0, n),
+        condition,
         described,
-        part(&description, 0, m),
+        part(&description, 0, n),
         limit,
         out,
     )
 }
 
-fn write_session(line: &[u8], limit: u32, out: &mut [u8]) -> Written {
-    let mut s = io::large_buffer();
-    let n = bytes(word(line, 4), &mut s);
-    session_frame::write(part(&s, 0, n), number16(word(line, 3)), limit, out)
-}
-
-fn write(letter: u8, line: &[u8], out: &mut [u8]) -> Written {
+fn write(letter: u8, line: &[u8], s: &[u8], out: &mut [u8]) -> Written {
     let limit = number32(word(line, 2));
     match letter {
-        b'o' => write_open(line, limit, out),
+        b'o' => write_open(line, s, limit, out),
         b'c' => frame_encoder::write_close(limit, out),
-        b'e' => write_close_with_error(line, limit, out),
+        b'e' => write_close_with_error(line, s, limit, out),
         b't' => frame_encoder::write_empty(limit, out),
-        _ => write_session(line, limit, out),
+        _ => session_frame::write(s, number16(word(line, 3)), limit, out),
     }
 }
 
 // The bytes that a case expects to be written are the word after `wrote`.
-fn write_filled(letter: u8, line: &[u8], wanted: &[u8], out: &mut [u8]) -> Answer {
+fn write_filled(letter: u8, line: &[u8], s: &[u8], wanted: &[u8], out: &mut [u8]) -> Answer {
     answers::fill(out);
-    let w = write(letter, line, out);
+    let w = write(letter, line, s, out);
     let mut expected = io::large_buffer();
     let n = bytes(word(wanted, 1), &mut expected);
-    answers::written(w, out, part(&expected, 0, n))
+    answers::written(w, out, wanted, part(&expected, 0, n))
 }
 
 // The first number is the room that is lent.
-fn write_bytes(letter: u8, line: &[u8], wanted: &[u8]) -> Answer {
+fn write_in_room(letter: u8, line: &[u8], s: &[u8], wanted: &[u8]) -> Answer {
     let mut out = io::large_buffer();
     let room = number(word(line, 1)) as usize;
     if out.len() < room {
-        return answers::malformed();
+        return answers::bad_line();
     }
-    write_filled(letter, line, wanted, &mut out[0..room])
+    write_filled(letter, line, s, wanted, &mut out[0..room])
+}
+
+fn run(letter: u8, line: &[u8], s: &[u8], wanted: &[u8]) -> Answer {
+    match letter {
+        b'o' | b'c' | b'e' | b't' | b'w' => write_in_room(letter, line, s, wanted),
+        _ => read(letter, line, s),
+    }
 }
 
 // What comes of the case on a line.
 pub(crate) fn answer(line: &[u8], wanted: &[u8]) -> Answer {
     if line.len() == 0 {
-        return answers::malformed();
+        return answers::bad_line();
     }
     let letter = line[0];
-    let n = numbers(letter);
-    if !well_formed(line, n, strings(letter)) {
-        return answers::malformed();
+    let before = numbers(letter);
+    if !well_formed(line, before, strings(letter)) {
+        return answers::bad_line();
     }
-    if writes(letter) {
-        return write_bytes(letter, line, wanted);
-    }
-    read_bytes(letter, line, word(line, (n as usize) + 1))
+    let mut s = io::large_buffer();
+    let n = bytes(word(line, (before as usize) + 1), &mut s);
+    run(letter, line, part(&s, 0, n), wanted)
 }

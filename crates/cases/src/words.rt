@@ -122,7 +122,7 @@ pub(crate) fn number32(w: &[u8]) -> u32 {
     4294967295
 }
 
-// Whether a word is bytes in hexadecimal: `-` for none, or pairs of digits.
+// Whether a word is bytes in hexadecimal: `-` for none, or pairs of digits for at most 65,536 bytes.
 pub(crate) fn is_bytes(w: &[u8]) -> bool {
     if check::same(w, b"-") {
         return true;
@@ -131,6 +131,9 @@ pub(crate) fn is_bytes(w: &[u8]) -> bool {
         return false;
     }
     if w.len() % 2 == 1 {
+        return false;
+    }
+    if 131_072 < w.len() {
         return false;
     }
     let mut i: usize = 0;

@@ -60,3 +60,28 @@ pub(crate) fn word(text: &[u8], width: usize) {
         blanks(width - text.len());
     }
 }
+
+// Text that came from a peer, with a dot for each byte that is no printable sign of ASCII.
+pub(crate) fn text(s: &[u8]) {
+    let mut i: usize = 0;
+    while i < s.len() {
+        sign(s, i);
+        i += 1;
+    }
+}
+
+fn sign(s: &[u8], i: usize) {
+    if s.len() <= i {
+        return;
+    }
+    if s[i] < 0x20 {
+        print(b".");
+        return;
+    }
+    if 0x7e < s[i] {
+        print(b".");
+        return;
+    }
+    let end = i + 1;
+    print(&s[i..end]);
+}

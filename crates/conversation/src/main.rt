@@ -2,7 +2,7 @@
 //
 // Standard input has the bytes of both sides, headers and frames one after the other in the order in which they were sent. What starts with the letter A is a header.
 // Frames are read with a limit of 16,384 bytes and a highest channel of 255. A header or frame that is refused has a line with the number of its refusal; where
-// that leaves unknown how long the frame is (1, 3 and 4), the program stops there.
+// that leaves unknown how long the frame is (1, 3 and 4), the program stops there. It takes at most 65,535 bytes, and says so where there are more.
 mod columns;
 mod rows;
 
@@ -51,6 +51,10 @@ fn walk(s: &[u8]) {
 fn main() {
     let mut buffer = io::large_buffer();
     let n = io::read_full(0, &mut buffer);
+    if n == buffer.len() {
+        print(b"more than 65,535 bytes\n");
+        return;
+    }
     print(b"  offset  what    length  channel  performative  payload  says\n");
     walk(columns::part(&buffer, 0, n));
 }

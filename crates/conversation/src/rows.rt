@@ -3,6 +3,7 @@ use crate::columns::decimal;
 use crate::columns::number;
 use crate::columns::part;
 use crate::columns::print;
+use crate::columns::text;
 use crate::columns::word;
 use frame_decoder::Frame;
 use performatives::Condition;
@@ -84,7 +85,7 @@ fn condition(c: Condition, body: &[u8]) {
         Condition::At { from, len } => {
             print(b"error ");
             if from <= body.len() {
-                print(part(&body[from..], 0, len));
+                text(part(&body[from..], 0, len));
             }
         }
     }
@@ -135,6 +136,7 @@ fn refused_frame(s: &[u8], k: u8) -> usize {
     print(b"       -        -  -                   -  ");
     refused(k as u64);
     if k <= 4 {
+        print(b"stopped: it is not known where the next frame starts\n");
         return 0;
     }
     octets::number(part(s, 0, 4)) as usize
