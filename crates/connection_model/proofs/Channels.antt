@@ -15,26 +15,10 @@ use Rattle.octets.specs.Verdict.{Verdict, refuse, accept}
 use Rattle.frame_encoder.specs.Frames.{Settings}
 use Rattle.connection_model.specs.States.{isOneOf, stopped}
 use Rattle.connection_model.specs.Connection.{Role, Map, nowhere, with, Connection, fresh, upFrom, freedFirst, Call, allocate, deallocate, Answer, channel, Effect, stay, go, agree, take, give, tie, takeAndTie, Outcome, apply, given, released, decide, Seen, answered, after, next, run, seenIn}
+use Rattle.connection_model.specs.Sound.{one, isTaken, count, EachOnce, Shared}
 use Rattle.connection_model.proofs.Rules.{Holds, refused, holds, require-passed, Legit, Lawful, lawful, lends-any}
 
 -- ---- each once
-
-abbrev pub one : Bool → ℕ
-one true = 1
-one false = 0
-
-abbrev pub isTaken : Option ℕ → ℕ
-isTaken none = 0
-isTaken (some h) = 1
-
--- how often k stands in a list
-abbrev pub count : ℕ → List ℕ → ℕ
-count k [] = 0
-count k (j ∷ l) = one (eqb j k) + count k l
-
--- the numbers of the list and those that are taken are together 0 to m, each once
-abbrev pub EachOnce : ℕ → List ℕ → Map → Type 0
-EachOnce m l tk = (k : ℕ) → count k l + isTaken (tk k) ≡ one (leb k m)
 
 one-small : (b : Bool) → one b ≤ 1
 one-small true = omega arith
@@ -84,13 +68,6 @@ once-fresh m k = elim (decLe k m) [
   | yes l ↦ rw (le-leb k m l) (omega (arith, within-once k 0 (suc m) (omega arith) (omega arith)))
   | no l ↦ rw (lt-leb k m (omega arith)) (omega (arith, above-none k 0 (suc m) (omega arith)))
 ]
-
--- the same of a connection's parts: before the peer's Open there is no list, and nothing is taken
-abbrev pub Shared : Option ℕ → Option (List ℕ) → Map → Type 0
-Shared none none tk = tk ≡ nowhere
-Shared none (some l) tk = ⊥
-Shared (some m) none tk = ⊥
-Shared (some m) (some l) tk = EachOnce m l tk
 
 pub shared-take : (a : Option ℕ) (l : Option (List ℕ)) (tk : Map) (ch : ℕ) (rest : List ℕ) (h : ℕ) → l ≡ some (ch ∷ rest) → Shared a l tk → Shared a (some rest) (with tk ch (some h))
 shared-take a l tk ch rest h e i = go a (subst (λ o. Shared a o tk) e i)

@@ -20,8 +20,9 @@ use Rattle.session_frame.specs.Session.{sessionBytes}
 use Rattle.connection_model.specs.States.{State, Opened, Discarding, is, isOneOf, sendOpen, sendClose, sendCloseWithError, reading, sending, stopped}
 use Rattle.connection_model.specs.Connection.{Role, Map, with, Connection, fresh, freedFirst, connection, Call, sendHeaderTo, receiveHeaderFrom, sendOpenTo, receiveFrame, sendCloseTo, sendSessionFrame, allocate, deallocate, tick, Effect, stay, go, agree, take, give, tie, takeAndTie, Outcome, nothingToDo, says, apply, headed, untie, passOn, begun, openRead, closeRead, sessionRead, frameRead, closes, tiedBy, sessionSent, given, decide, lent, Seen, answered, written, seen, after, next, run, seenIn}
 use Rattle.connection_model.specs.Account.{when, limitsShow, account}
-use Rattle.connection_model.proofs.Rules.{Holds, refused, holds, stage, implied, one-of, everywhere, on-along, Legit, Lawful, lawful, lends-any}
-use Rattle.connection_model.proofs.Invariant.{Reached, reached}
+use Rattle.connection_model.proofs.Rules.{Holds, refused, holds, implied, one-of, everywhere, on-along, Legit, Lawful, lawful, lends-any}
+use Rattle.connection_model.specs.Sound.{stage, Reached}
+use Rattle.connection_model.proofs.Invariant.{reached}
 
 -- ---- equal parts make equal rules
 

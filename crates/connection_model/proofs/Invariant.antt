@@ -11,44 +11,9 @@ use lib.Dec.{T, eqb, eqb→eq}
 use Rattle.octets.specs.Verdict.{Verdict}
 use Rattle.frame_encoder.specs.Frames.{Settings}
 use Rattle.connection_model.specs.Connection.{Role, Map, nowhere, with, Connection, upFrom, fresh, Call, Effect, stay, go, agree, take, give, tie, takeAndTie, Outcome, apply, after, next, run}
-use Rattle.connection_model.proofs.Rules.{Holds, refused, holds, stage, Lends, Holder, Legit, Lawful, lawful, lends-any}
-use Rattle.connection_model.proofs.Channels.{EachOnce, once-fresh, once-taken, Shared, shared-take, shared-give}
-
--- ---- what holds
-
--- over the fields that each speaks of, so that an effect which changes only others keeps it as it stands
-pub record First (reading writing : ℕ) (agreedMax : Option ℕ) (handOut : Option (List ℕ)) (taken ties : Map) : Type 0 where
-  pub reading-first : reading ≡ 512
-  pub writing-first : writing ≡ 512
-  pub not-agreed : agreedMax ≡ none
-  pub no-list : handOut ≡ none
-  pub none-taken : taken ≡ nowhere
-  pub none-tied : ties ≡ nowhere
-
-abbrev pub Untouched : Connection → Type 0
-Untouched c = First (c .readingLimit) (c .writingLimit) (c .agreedMax) (c .handOut) (c .taken) (c .ties)
-
-pub record Limits (S : Settings) (reading writing : ℕ) : Type 0 where
-  pub reading-either : (reading ≡ 512) ⊎ (reading ≡ S .maxFrameSize)
-  pub writing-low : 512 ≤ writing
-  pub writing-high : writing ≤ 16384
-
-abbrev pub TiedWithin : ℕ → Map → Type 0
-TiedWithin m ties = (n h : ℕ) → ties n ≡ some h → n ≤ m
-
-abbrev pub AgreedWithin : ℕ → Option ℕ → Type 0
-AgreedWithin most none = Unit {0}
-AgreedWithin most (some m) = m ≤ most
-
-pub record Reached (S : Settings) (c : Connection) : Type 0 where
-  -- Start, HeaderReceived, HeaderSent, HeaderExchange, OpenPipe, OpenClosePipe, OpenSent, ClosePipe
-  pub early : stage (c .state) ≡ 0 → Untouched c
-  -- these, and OpenReceived
-  pub untied : stage (c .state) ≤ 1 → c .ties ≡ nowhere
-  pub limits : Limits S (c .readingLimit) (c .writingLimit)
-  pub tied : TiedWithin (S .channelMax) (c .ties)
-  pub agreed : AgreedWithin (S .channelMax) (c .agreedMax)
-  pub shared : Shared (c .agreedMax) (c .handOut) (c .taken)
+use Rattle.connection_model.specs.Sound.{stage, EachOnce, Shared, First, Untouched, Limits, TiedWithin, AgreedWithin, Reached}
+use Rattle.connection_model.proofs.Rules.{Holds, refused, holds, Lends, Holder, Legit, Lawful, lawful, lends-any}
+use Rattle.connection_model.proofs.Channels.{once-fresh, once-taken, shared-take, shared-give}
 
 -- ---- each lawful effect keeps it
 

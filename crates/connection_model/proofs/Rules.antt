@@ -17,6 +17,7 @@ use Rattle.frame_decoder.specs.Frame.{Frame, frame, content, bodyIn, readFrame,
 use Rattle.frame_encoder.specs.Frames.{Settings, ErrorText, limited}
 use Rattle.session_frame.specs.Session.{sessionBytes}
 use Rattle.connection_model.specs.States.{State, Start, HeaderReceived, HeaderSent, HeaderExchange, OpenPipe, OpenClosePipe, OpenReceived, OpenSent, ClosePipe, Opened, CloseReceived, CloseSent, Discarding, End, numbered, is, isOneOf, Move, _⇒_, along, sendHeader, receiveHeader, receiveOtherHeader, sendOpen, readOpen, sendClose, sendCloseWithError, readClose, reading, sending, silent}
+use Rattle.connection_model.specs.Sound.{stage}
 use Rattle.connection_model.specs.Connection.{Role, dialler, listener, Connection, Call, sendHeaderTo, receiveHeaderFrom, sendOpenTo, receiveFrame, sendCloseTo, sendSessionFrame, allocate, deallocate, tick, Effect, stay, go, agree, take, give, tie, takeAndTie, Outcome, headed, tieTo, untie, passOn, newSession, begun, openRead, sessionRead, performativeRead, frameRead, closes, tiedBy, sessionSent, given, released, decide}
 
 -- ---- the parts of a rule
@@ -78,23 +79,6 @@ either true d t p q = p tt
 either false d t p q = q t
 
 -- ---- states
-
--- how far a connection is: 0 before the peer's Open or Close, 1 with the peer's Open alone, 2 with both Opens, 3 with the peer's Close, 4 where nothing but a tick is written any more
-abbrev pub stage : State → ℕ
-stage Start = 0
-stage HeaderReceived = 0
-stage HeaderSent = 0
-stage HeaderExchange = 0
-stage OpenPipe = 0
-stage OpenClosePipe = 0
-stage OpenReceived = 1
-stage OpenSent = 0
-stage ClosePipe = 0
-stage Opened = 2
-stage CloseReceived = 3
-stage CloseSent = 4
-stage Discarding = 4
-stage End = 4
 
 abbrev pub states : List State
 states =

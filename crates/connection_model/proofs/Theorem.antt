@@ -17,7 +17,8 @@ use Rattle.frame_encoder.specs.Frames.{Settings, settingsOk}
 use Rattle.connection_model.specs.Connection.{Role, Connection, fresh, Call, run, seenIn}
 use Rattle.connection_model.specs.Account.{account}
 use Rattle.connection_model.specs.Callers.{Valid}
-use Rattle.connection_model.proofs.Invariant.{Reached, reached, reading-within, taken-within}
+use Rattle.connection_model.specs.Sound.{Reached}
+use Rattle.connection_model.proofs.Invariant.{reached, reading-within, taken-within}
 use Rattle.connection_model.proofs.Forward.{forward-run}
 use Rattle.connection_model.proofs.Apart.{Reachable, settings-within, apart}
 

@@ -1,5 +1,6 @@
 pub mod States
 pub mod Connection
+pub mod Sound
 pub mod Account
 pub mod Callers
 pub mod Part2
