@@ -198,7 +198,7 @@ module _ (role : Role) (S : Settings) (c d : Connection) (i : Reachable S c) (j 
   ties-by : S .channelMax ≤ 255 → SameAt Opened → (n : ℕ) (t : Bool) → leb n (S .channelMax) ≡ t → c .ties n ≡ d .ties n
   ties-by few same n true e =
       let le : n ≤ S .channelMax = leb-true n (S .channelMax) e in
-      passed-told (framed 15 n) detached (c .ties n) (d .ties n)
+      passed-told (framed 15 n) 22 (c .ties n) (d .ties n)
       (ap answered (sym (detach-read role S l c n (i .reading-low) le (omega arith)))
       ∙ one role S (at Opened l c) (at Opened m d) same (receiveFrame (frameBytes n aDetach) 0) (frame-valid n aDetach refl (omega arith))
       ∙ ap answered (detach-read role S m d n (j .reading-low) le (omega arith)))

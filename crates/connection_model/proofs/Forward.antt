@@ -13,12 +13,12 @@ use lib.Dec.{T, leb, eqb, leb→le, eqb→eq}
 use Rattle.octets.specs.Verdict.{Verdict, refuse, accept, require, andThen}
 use Rattle.octets.specs.Output.{roomFor, laid}
 use Rattle.protocol_header.specs.Header.{Protocol, amqp100, other, received}
-use Rattle.performatives.specs.Performative.{Performative, remoteChannel}
+use Rattle.performatives.specs.Performative.{Performative, remoteChannel, maxFrameSize, channelMax, idleTimeOut, condition}
 use Rattle.frame_decoder.specs.Frame.{Frame, readFrame, sessionFrame, beginsFor}
 use Rattle.frame_encoder.specs.Frames.{Settings, ErrorText, frameBytes, limited, openBody, closeOk, closeBody}
 use Rattle.session_frame.specs.Session.{sessionBytes}
 use Rattle.connection_model.specs.States.{State, Opened, Discarding, is, isOneOf, sendOpen, sendClose, sendCloseWithError, reading, sending, stopped}
-use Rattle.connection_model.specs.Connection.{Role, Map, with, Connection, fresh, freedFirst, connection, Call, sendHeaderTo, receiveHeaderFrom, sendOpenTo, receiveFrame, sendCloseTo, sendSessionFrame, allocate, deallocate, tick, Effect, stay, go, agree, take, give, tie, takeAndTie, Outcome, nothingToDo, says, apply, headed, untie, passOn, begun, openRead, closeRead, sessionRead, frameRead, closes, tiedBy, sessionSent, given, decide, lent, Seen, answered, written, seen, after, next, run, seenIn}
+use Rattle.connection_model.specs.Connection.{hasError, Role, Map, with, Connection, fresh, freedFirst, connection, Call, sendHeaderTo, receiveHeaderFrom, sendOpenTo, receiveFrame, sendCloseTo, sendSessionFrame, allocate, deallocate, tick, Effect, stay, go, agree, take, give, tie, takeAndTie, Outcome, nothingToDo, says, apply, headed, untie, passOn, begun, openRead, closeRead, sessionRead, frameRead, closes, tiedBy, sessionSent, given, decide, lent, Seen, answered, written, seen, after, next, run, seenIn}
 use Rattle.connection_model.specs.Account.{when, limitsShow, account}
 use Rattle.connection_model.proofs.Rules.{Holds, refused, holds, implied, one-of, everywhere, on-along, Legit, Lawful, lawful, lends-any}
 use Rattle.connection_model.specs.Sound.{stage, Reached}
@@ -57,22 +57,22 @@ module _ (x : State) (r : ℕ) (tk : Map) (w w′ : ℕ) (m m′ : Option ℕ) (
   same-headed amqp100 = refl
   same-headed (other h) = refl
 
-  same-begun : (f : Frame) (p : Performative) (h : ℕ) (rs : List ℕ) → stage x ≤ 3 → begun role here f p h rs ≡ begun role there f p h rs
-  same-begun f p h [] u = ap (λ o. begun role (connection x r w m o tk ti) f p h []) (list u)
-  same-begun f p h (n ∷ rs) u = refl
+  same-begun : (f : Frame) (h : ℕ) (rs : List ℕ) → stage x ≤ 3 → begun role here f h rs ≡ begun role there f h rs
+  same-begun f h [] u = ap (λ o. begun role (connection x r w m o tk ti) f h []) (list u)
+  same-begun f h (n ∷ rs) u = refl
 
   same-session : (f : Frame) (p : Performative) (h : ℕ) → sessionRead role here f p h ≡ sessionRead role there f p h
   same-session f p h =
       require-same 20 (isOneOf reading x) _ _ (λ t.
       let u : stage x ≤ 2 = leb→le _ _ (one-of (λ y. leb (stage y) 2) reading tt x t) in
       let v : stage x ≤ 3 = omega arith in
-      ap₂ (λ a n. cond (eqb (p .code) 17) a (cond (eqb (p .code) 23) (untie f p (n (f .channel))) (passOn f p (n (f .channel)))))
-      (same-begun f p h (remoteChannel p) v) (tied u))
+      ap₂ (λ a n. cond (eqb (p .code) 17) a (cond (eqb (p .code) 23) (untie f (n (f .channel))) (passOn f (p .code) (n (f .channel)))))
+      (same-begun f h (remoteChannel p) v) (tied u))
 
   same-frame : (h : ℕ) (q : Frame × Option Performative) → frameRead role S here h q ≡ frameRead role S there h q
   same-frame h (f, none) = refl
   same-frame h (f, some p) =
-      ap (λ v. cond (eqb (p .code) 24) (closeRead here f p) (cond (is Discarding x) (says (nothingToDo (f .size)) stay) (cond (eqb (p .code) 16) (openRead S here f p) v)))
+      ap (λ v. cond (eqb (p .code) 24) (closeRead here f (hasError (condition 0 p))) (cond (is Discarding x) (says (nothingToDo (f .size)) stay) (cond (eqb (p .code) 16) (openRead S here f (maxFrameSize p) (channelMax p) (idleTimeOut p)) v)))
       (same-session f p h)
 
   -- what is written within a limit

@@ -86,7 +86,7 @@ unfolding require andThen
 too-long-told true bytes e = refl
 too-long-told false bytes e = refl
 
-pass-told : (f : Frame) (p : Performative) (o : Option ℕ) → refuses 20 (passOn f p o) ≡ false
+pass-told : (f : Frame) (code : ℕ) (o : Option ℕ) → refuses 20 (passOn f code o) ≡ false
 pass-told f p none = refl
 pass-told f p (some h) = refl
 
@@ -210,12 +210,12 @@ close-next role S l c low =
 -- ---- a tie, by a Detach on its channel
 
 pub detach-read : (role : Role) (S : Settings) (l : Option (List ℕ)) (c : Connection) (n : ℕ) → 512 ≤ c .readingLimit → n ≤ S .channelMax → n ≤ 255
-    → decide role S (at Opened l c) (receiveFrame (frameBytes n aDetach) 0) ≡ passOn (framed 15 n) detached (c .ties n)
+    → decide role S (at Opened l c) (receiveFrame (frameBytes n aDetach) 0) ≡ passOn (framed 15 n) 22 (c .ties n)
 unfolding require
 detach-read role S l c n low held few =
     then-accept _ (frameRead role S (at Opened l c) 0) _ (read-whole n aDetach (omega arith) (omega arith) (c .readingLimit) (S .channelMax) _ detach-content (omega arith) held)
 
-pub passed-told : (f : Frame) (p : Performative) (o u : Option ℕ) → answered (passOn f p o) ≡ answered (passOn f p u) → o ≡ u
+pub passed-told : (f : Frame) (code : ℕ) (o u : Option ℕ) → answered (passOn f code o) ≡ answered (passOn f code u) → o ≡ u
 passed-told f p none none e = refl
 passed-told f p none (some h) e = cc
 passed-told f p (some h) none e = cc

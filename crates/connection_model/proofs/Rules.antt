@@ -249,17 +249,17 @@ module _ (H : ℕ → Type 0) (role : Role) (S : Settings) (c : Connection) wher
 
   -- a frame that was read
   module _ (f : Frame) (le : f .channel ≤ S .channelMax) where
-    on-tieTo : (p : Performative) → 2 ≤ stage (c .state) → (r : ℕ) (o : Option ℕ) → c .taken r ≡ o → Fine (tieTo f p o)
-    on-tieTo p u r none e = refused
-    on-tieTo p u r (some h) e = let l : Ties S c (f .channel) (some h) = record { open-yet = u; most = le; holder = (r, e) } in holds l
+    on-tieTo : 2 ≤ stage (c .state) → (r : ℕ) (o : Option ℕ) → c .taken r ≡ o → Fine (tieTo f o)
+    on-tieTo u r none e = refused
+    on-tieTo u r (some h) e = let l : Ties S c (f .channel) (some h) = record { open-yet = u; most = le; holder = (r, e) } in holds l
 
-    on-untie : (p : Performative) → 2 ≤ stage (c .state) → (o : Option ℕ) → Fine (untie f p o)
-    on-untie p u none = refused
-    on-untie p u (some h) = let l : Ties S c (f .channel) none = record { open-yet = u; most = le; holder = tt } in holds l
+    on-untie : 2 ≤ stage (c .state) → (o : Option ℕ) → Fine (untie f o)
+    on-untie u none = refused
+    on-untie u (some h) = let l : Ties S c (f .channel) none = record { open-yet = u; most = le; holder = tt } in holds l
 
-    on-passOn : (p : Performative) → (o : Option ℕ) → Fine (passOn f p o)
-    on-passOn p none = refused
-    on-passOn p (some h) = holds tt
+    on-passOn : (code : ℕ) (o : Option ℕ) → Fine (passOn f code o)
+    on-passOn code none = refused
+    on-passOn code (some h) = holds tt
 
     on-newSession : (ρ : Role) → 2 ≤ stage (c .state) → (h : ℕ) → H h → (l : Option (List ℕ)) → c .handOut ≡ l → Fine (newSession ρ f h l)
     on-newSession dialler u h k l e = refused
@@ -267,12 +267,12 @@ module _ (H : ℕ → Type 0) (role : Role) (S : Settings) (c : Connection) wher
     on-newSession listener u h k (some []) e = refused
     on-newSession listener u h k (some (ch ∷ rest)) e = let l : Takes H c ch rest h = record { next = e; lent = k } in let m : Legit H S c (takeAndTie ch rest h (f .channel)) = (l, u, le) in holds m
 
-    on-begun : (p : Performative) → 2 ≤ stage (c .state) → (h : ℕ) → H h → (rs : List ℕ) → Fine (begun role c f p h rs)
-    on-begun p u h k [] = on-newSession role u h k (c .handOut) refl
-    on-begun p u h k (r ∷ rs) = on-tieTo p u r (c .taken r) refl
+    on-begun : 2 ≤ stage (c .state) → (h : ℕ) → H h → (rs : List ℕ) → Fine (begun role c f h rs)
+    on-begun u h k [] = on-newSession role u h k (c .handOut) refl
+    on-begun u h k (r ∷ rs) = on-tieTo u r (c .taken r) refl
 
-    on-openRead : (p : Performative) → Fine (openRead S c f p)
-    on-openRead p =
+    on-openRead : (size most idle : ℕ) → Fine (openRead S c f size most idle)
+    on-openRead size most idle =
         on-andThen _ _ (on-along opens readOpen tt (c .state)) (λ x t. holds (record {
           first = eqb→eq _ _ (and-left (eqb (stage (c .state)) 0) (leb 1 (stage x)) t);
           opened = leb→le _ _ (and-right (eqb (stage (c .state)) 0) (leb 1 (stage x)) t);
@@ -285,14 +285,14 @@ module _ (H : ℕ → Type 0) (role : Role) (S : Settings) (c : Connection) wher
     on-sessionRead p h k =
         on-require _ _ _ _ (λ t.
         let u : 2 ≤ stage (c .state) = leb→le _ _ (one-of (λ x. leb 2 (stage x)) reading tt (c .state) t) in
-        on-cond _ (eqb (p .code) 17) _ _ (λ t. on-begun p u h k (remoteChannel p))
-        (on-cond _ (eqb (p .code) 23) _ _ (λ t. on-untie p u (c .ties (f .channel))) (on-passOn p (c .ties (f .channel)))))
+        on-cond _ (eqb (p .code) 17) _ _ (λ t. on-begun u h k (remoteChannel p))
+        (on-cond _ (eqb (p .code) 23) _ _ (λ t. on-untie u (c .ties (f .channel))) (on-passOn (p .code) (c .ties (f .channel)))))
 
     on-performative : (h : ℕ) → H h → (p : Performative) → Fine (performativeRead role S c f h p)
     on-performative h k p =
         on-cond _ (eqb (p .code) 24) _ _ (λ t. moved readClose tt _ (λ x g. holds g))
         (on-cond _ (is Discarding (c .state)) _ _ (λ t. holds tt)
-        (on-cond _ (eqb (p .code) 16) _ _ (λ t. on-openRead p)
+        (on-cond _ (eqb (p .code) 16) _ _ (λ t. on-openRead _ _ _)
         (on-sessionRead p h k)))
 
   on-frame : (h : ℕ) → H h → (r : Frame × Option Performative) → r .0 .channel ≤ S .channelMax → Fine (frameRead role S c h r)

@@ -142,20 +142,21 @@ hasError [] = false
 hasError (place ∷ l) = true
 
 -- a frame's body, that goes on to a handle
-abbrev pub forwarded : Frame → Performative → ℕ → Answer
-forwarded f p h = forward (f .size) (p .code) h (f .from) (f .size - f .from)
+abbrev pub forwarded : Frame → ℕ → ℕ → Answer
+forwarded f code h = forward (f .size) code h (f .from) (f .size - f .from)
 
-abbrev pub tieTo : Frame → Performative → Option ℕ → Verdict Outcome
-tieTo f p none = refuse 24
-tieTo f p (some h) = says (forwarded f p h) (tie (f .channel) (some h))
+-- a Begin's channel is tied, an End's untied, and what comes between passed on
+abbrev pub tieTo : Frame → Option ℕ → Verdict Outcome
+tieTo f none = refuse 24
+tieTo f (some h) = says (forwarded f 17 h) (tie (f .channel) (some h))
 
-abbrev pub untie : Frame → Performative → Option ℕ → Verdict Outcome
-untie f p none = refuse 24
-untie f p (some h) = says (forwarded f p h) (tie (f .channel) none)
+abbrev pub untie : Frame → Option ℕ → Verdict Outcome
+untie f none = refuse 24
+untie f (some h) = says (forwarded f 23 h) (tie (f .channel) none)
 
-abbrev pub passOn : Frame → Performative → Option ℕ → Verdict Outcome
-passOn f p none = refuse 24
-passOn f p (some h) = says (forwarded f p h) stay
+abbrev pub passOn : Frame → ℕ → Option ℕ → Verdict Outcome
+passOn f code none = refuse 24
+passOn f code (some h) = says (forwarded f code h) stay
 
 abbrev pub newSession : Role → Frame → ℕ → Option (List ℕ) → Verdict Outcome
 newSession dialler f h l = refuse 25
@@ -164,31 +165,32 @@ newSession listener f h (some []) = refuse 25
 newSession listener f h (some (ch ∷ rest)) = says (began (f .size) ch h (f .from) (f .size - f .from)) (takeAndTie ch rest h (f .channel))
 
 -- a Begin that answers one of ours names its channel; one without begins a session
-abbrev pub begun : Role → Connection → Frame → Performative → ℕ → List ℕ → Verdict Outcome
-begun role c f p h [] = newSession role f h (c .handOut)
-begun role c f p h (r ∷ l) = tieTo f p (c .taken r)
+abbrev pub begun : Role → Connection → Frame → ℕ → List ℕ → Verdict Outcome
+begun role c f h [] = newSession role f h (c .handOut)
+begun role c f h (r ∷ l) = tieTo f (c .taken r)
 
-abbrev pub openRead : Settings → Connection → Frame → Performative → Verdict Outcome
-openRead S c f p =
-    andThen (along readOpen (c .state)) (λ x.
-    says (opened (f .size) (idleTimeOut p)) (agree x (min (S .channelMax) (channelMax p)) (clamped (maxFrameSize p))))
+-- the peer's max-frame-size, channel-max and idle-time-out
+abbrev pub openRead : Settings → Connection → Frame → ℕ → ℕ → ℕ → Verdict Outcome
+openRead S c f size most idle =
+    andThen (along readOpen (c .state)) (λ x. says (opened (f .size) idle) (agree x (min (S .channelMax) most) (clamped size)))
 
-abbrev pub closeRead : Connection → Frame → Performative → Verdict Outcome
-closeRead c f p = andThen (along readClose (c .state)) (λ x. says (closed (f .size) (hasError (condition 0 p))) (go x))
+-- whether it has an error
+abbrev pub closeRead : Connection → Frame → Bool → Verdict Outcome
+closeRead c f error = andThen (along readClose (c .state)) (λ x. says (closed (f .size) error) (go x))
 
 abbrev pub sessionRead : Role → Connection → Frame → Performative → ℕ → Verdict Outcome
 sessionRead role c f p h =
     onlyIn reading (c .state) (λ _.
-    cond (eqb (p .code) 17) (begun role c f p h (remoteChannel p))
-    (cond (eqb (p .code) 23) (untie f p (c .ties (f .channel)))
-    (passOn f p (c .ties (f .channel)))))
+    cond (eqb (p .code) 17) (begun role c f h (remoteChannel p))
+    (cond (eqb (p .code) 23) (untie f (c .ties (f .channel)))
+    (passOn f (p .code) (c .ties (f .channel)))))
 
 -- Close is read in Discarding, and every other frame is answered "nothing to do" there
 abbrev pub performativeRead : Role → Settings → Connection → Frame → ℕ → Performative → Verdict Outcome
 performativeRead role S c f h p =
-    cond (eqb (p .code) 24) (closeRead c f p)
+    cond (eqb (p .code) 24) (closeRead c f (hasError (condition 0 p)))
     (cond (is Discarding (c .state)) (says (nothingToDo (f .size)) stay)
-    (cond (eqb (p .code) 16) (openRead S c f p)
+    (cond (eqb (p .code) 16) (openRead S c f (maxFrameSize p) (channelMax p) (idleTimeOut p))
     (sessionRead role c f p h)))
 
 abbrev pub frameRead : Role → Settings → Connection → ℕ → Frame × Option Performative → Verdict Outcome
