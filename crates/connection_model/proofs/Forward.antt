@@ -61,19 +61,19 @@ module _ (x : State) (r : ℕ) (tk : Map) (w w′ : ℕ) (m m′ : Option ℕ) (
   same-begun f h [] u = ap (λ o. begun role (connection x r w m o tk ti) f h []) (list u)
   same-begun f h (n ∷ rs) u = refl
 
-  same-session : (f : Frame) (p : Performative) (h : ℕ) → sessionRead role here f p h ≡ sessionRead role there f p h
-  same-session f p h =
+  same-session : (f : Frame) (h code : ℕ) (rs : List ℕ) → sessionRead role here f h code rs ≡ sessionRead role there f h code rs
+  same-session f h code rs =
       require-same 20 (isOneOf reading x) _ _ (λ t.
       let u : stage x ≤ 2 = leb→le _ _ (one-of (λ y. leb (stage y) 2) reading tt x t) in
       let v : stage x ≤ 3 = omega arith in
-      ap₂ (λ a n. cond (eqb (p .code) 17) a (cond (eqb (p .code) 23) (untie f (n (f .channel))) (passOn f (p .code) (n (f .channel)))))
-      (same-begun f h (remoteChannel p) v) (tied u))
+      ap₂ (λ a n. cond (eqb code 17) a (cond (eqb code 23) (untie f (n (f .channel))) (passOn f code (n (f .channel)))))
+      (same-begun f h rs v) (tied u))
 
   same-frame : (h : ℕ) (q : Frame × Option Performative) → frameRead role S here h q ≡ frameRead role S there h q
   same-frame h (f, none) = refl
   same-frame h (f, some p) =
       ap (λ v. cond (eqb (p .code) 24) (closeRead here f (hasError (condition 0 p))) (cond (is Discarding x) (says (nothingToDo (f .size)) stay) (cond (eqb (p .code) 16) (openRead S here f (maxFrameSize p) (channelMax p) (idleTimeOut p)) v)))
-      (same-session f p h)
+      (same-session f h (p .code) (remoteChannel p))
 
   -- what is written within a limit
   same-limited : (f : List ℕ → Verdict Outcome) (bytes : List ℕ) → stage x ≤ 3 → andThen (limited w bytes) f ≡ andThen (limited w′ bytes) f

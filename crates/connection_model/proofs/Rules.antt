@@ -281,19 +281,19 @@ module _ (H : ℕ → Type 0) (role : Role) (S : Settings) (c : Connection) wher
           high = omega arith;
         }))
 
-    on-sessionRead : (p : Performative) (h : ℕ) → H h → Fine (sessionRead role c f p h)
-    on-sessionRead p h k =
+    on-sessionRead : (h : ℕ) → H h → (code : ℕ) (rs : List ℕ) → Fine (sessionRead role c f h code rs)
+    on-sessionRead h k code rs =
         on-require _ _ _ _ (λ t.
         let u : 2 ≤ stage (c .state) = leb→le _ _ (one-of (λ x. leb 2 (stage x)) reading tt (c .state) t) in
-        on-cond _ (eqb (p .code) 17) _ _ (λ t. on-begun u h k (remoteChannel p))
-        (on-cond _ (eqb (p .code) 23) _ _ (λ t. on-untie u (c .ties (f .channel))) (on-passOn (p .code) (c .ties (f .channel)))))
+        on-cond _ (eqb code 17) _ _ (λ t. on-begun u h k rs)
+        (on-cond _ (eqb code 23) _ _ (λ t. on-untie u (c .ties (f .channel))) (on-passOn code (c .ties (f .channel)))))
 
     on-performative : (h : ℕ) → H h → (p : Performative) → Fine (performativeRead role S c f h p)
     on-performative h k p =
         on-cond _ (eqb (p .code) 24) _ _ (λ t. moved readClose tt _ (λ x g. holds g))
         (on-cond _ (is Discarding (c .state)) _ _ (λ t. holds tt)
         (on-cond _ (eqb (p .code) 16) _ _ (λ t. on-openRead _ _ _)
-        (on-sessionRead p h k)))
+        (on-sessionRead h k (p .code) (remoteChannel p))))
 
   on-frame : (h : ℕ) → H h → (r : Frame × Option Performative) → r .0 .channel ≤ S .channelMax → Fine (frameRead role S c h r)
   on-frame h k (f, none) le = holds tt

@@ -178,12 +178,13 @@ openRead S c f size most idle =
 abbrev pub closeRead : Connection → Frame → Bool → Verdict Outcome
 closeRead c f error = andThen (along readClose (c .state)) (λ x. says (closed (f .size) error) (go x))
 
-abbrev pub sessionRead : Role → Connection → Frame → Performative → ℕ → Verdict Outcome
-sessionRead role c f p h =
+-- which performative it is, and the remote-channel of a Begin
+abbrev pub sessionRead : Role → Connection → Frame → ℕ → ℕ → List ℕ → Verdict Outcome
+sessionRead role c f h code rs =
     onlyIn reading (c .state) (λ _.
-    cond (eqb (p .code) 17) (begun role c f h (remoteChannel p))
-    (cond (eqb (p .code) 23) (untie f (c .ties (f .channel)))
-    (passOn f (p .code) (c .ties (f .channel)))))
+    cond (eqb code 17) (begun role c f h rs)
+    (cond (eqb code 23) (untie f (c .ties (f .channel)))
+    (passOn f code (c .ties (f .channel)))))
 
 -- Close is read in Discarding, and every other frame is answered "nothing to do" there
 abbrev pub performativeRead : Role → Settings → Connection → Frame → ℕ → Performative → Verdict Outcome
@@ -191,7 +192,7 @@ performativeRead role S c f h p =
     cond (eqb (p .code) 24) (closeRead c f (hasError (condition 0 p)))
     (cond (is Discarding (c .state)) (says (nothingToDo (f .size)) stay)
     (cond (eqb (p .code) 16) (openRead S c f (maxFrameSize p) (channelMax p) (idleTimeOut p))
-    (sessionRead role c f p h)))
+    (sessionRead role c f h (p .code) (remoteChannel p))))
 
 abbrev pub frameRead : Role → Settings → Connection → ℕ → Frame × Option Performative → Verdict Outcome
 frameRead role S c h (f, none) = says (nothingToDo (f .size)) stay
