@@ -14,8 +14,9 @@ use Rattle.octets.specs.Verdict.{Verdict, refuse, require, accepts}
 use Rattle.octets.specs.Octets.{bytesOf}
 use Rattle.text.specs.Utf8.{utf8}
 use Rattle.frame_encoder.specs.Frames.{Settings, frameBytes, settingsOk}
-use Rattle.connection_model.specs.States.{State, Start, HeaderReceived, HeaderSent, HeaderExchange, OpenPipe, OpenClosePipe, OpenReceived, OpenSent, ClosePipe, Opened, CloseReceived, CloseSent, Discarding, End, is, isOneOf, sendHeader, receiveHeader, sendOpen, readOpen, sendClose, readClose, reading, sending, stopped}
-use Rattle.connection_model.specs.Connection.{Role, Map, with, Connection, connection, Call, sendHeaderTo, receiveHeaderFrom, sendOpenTo, receiveFrame, sendCloseTo, sendSessionFrame, allocate, deallocate, Answer, given, decide, answered, Seen, next, seenIn}
+use Rattle.connection_state.specs.States.{State, Start, HeaderReceived, HeaderSent, HeaderExchange, OpenPipe, OpenClosePipe, OpenReceived, OpenSent, ClosePipe, Opened, CloseReceived, CloseSent, Discarding, End, is, isOneOf, sendHeader, receiveHeader, sendOpen, readOpen, sendClose, readClose, reading, sending, stopped}
+use Rattle.channels.specs.Numbers.{Map, with}
+use Rattle.connection_model.specs.Connection.{Role, Connection, connection, Call, sendHeaderTo, receiveHeaderFrom, sendOpenTo, receiveFrame, sendCloseTo, sendSessionFrame, allocate, deallocate, Answer, given, decide, answered, Seen, next, seenIn}
 use Rattle.connection_model.specs.Account.{when, limitsShow, account}
 use Rattle.connection_model.specs.Callers.{isValid, areValid, Valid}
 use Rattle.connection_model.proofs.Valid.{both}

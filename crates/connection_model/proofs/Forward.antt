@@ -17,8 +17,9 @@ use Rattle.performatives.specs.Performative.{Performative, remoteChannel, maxFr
 use Rattle.frame_decoder.specs.Frame.{Frame, readFrame, sessionFrame, beginsFor}
 use Rattle.frame_encoder.specs.Frames.{Settings, ErrorText, frameBytes, limited, openBody, closeOk, closeBody}
 use Rattle.session_frame.specs.Session.{sessionBytes}
-use Rattle.connection_model.specs.States.{State, Opened, Discarding, is, isOneOf, sendOpen, sendClose, sendCloseWithError, reading, sending, stopped}
-use Rattle.connection_model.specs.Connection.{hasError, Role, Map, with, Connection, fresh, freedFirst, connection, Call, sendHeaderTo, receiveHeaderFrom, sendOpenTo, receiveFrame, sendCloseTo, sendSessionFrame, allocate, deallocate, tick, Effect, stay, go, agree, take, give, tie, takeAndTie, Outcome, nothingToDo, says, apply, headed, untie, passOn, begun, openRead, closeRead, sessionRead, frameRead, closes, tiedBy, sessionSent, given, decide, lent, Seen, answered, written, seen, after, next, run, seenIn}
+use Rattle.connection_state.specs.States.{State, Opened, Discarding, is, isOneOf, sendOpen, sendClose, sendCloseWithError, reading, sending, stopped}
+use Rattle.channels.specs.Numbers.{Map, with, freedFirst}
+use Rattle.connection_model.specs.Connection.{hasError, Role, Connection, fresh, connection, Call, sendHeaderTo, receiveHeaderFrom, sendOpenTo, receiveFrame, sendCloseTo, sendSessionFrame, allocate, deallocate, tick, Effect, stay, go, agree, take, give, tie, takeAndTie, Outcome, nothingToDo, says, apply, headed, untie, passOn, begun, openRead, closeRead, sessionRead, frameRead, closes, tiedBy, sessionSent, given, decide, lent, Seen, answered, written, seen, after, next, run, seenIn}
 use Rattle.connection_model.specs.Account.{when, limitsShow, account}
 use Rattle.connection_model.proofs.Rules.{Holds, refused, holds, implied, one-of, everywhere, on-along, Legit, Lawful, lawful, lends-any}
 use Rattle.connection_model.specs.Sound.{stage, Reached}

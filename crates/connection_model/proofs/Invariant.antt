@@ -10,10 +10,11 @@ use native.Mathlib.Omega.{arith}
 use lib.Dec.{T, eqb, eqb→eq}
 use Rattle.octets.specs.Verdict.{Verdict}
 use Rattle.frame_encoder.specs.Frames.{Settings}
-use Rattle.connection_model.specs.Connection.{Role, Map, nowhere, with, Connection, upFrom, fresh, Call, Effect, stay, go, agree, take, give, tie, takeAndTie, Outcome, apply, after, next, run}
-use Rattle.connection_model.specs.Sound.{stage, EachOnce, Shared, First, Untouched, Limits, TiedWithin, AgreedWithin, Reached}
+use Rattle.channels.specs.Numbers.{Map, nowhere, with, upFrom, EachOnce, Shared}
+use Rattle.connection_model.specs.Connection.{Role, Connection, fresh, Call, Effect, stay, go, agree, take, give, tie, takeAndTie, Outcome, apply, after, next, run}
+use Rattle.connection_model.specs.Sound.{stage, First, Untouched, Limits, TiedWithin, AgreedWithin, Reached}
 use Rattle.connection_model.proofs.Rules.{Holds, refused, holds, Lends, Holder, Legit, Lawful, lawful, lends-any}
-use Rattle.connection_model.proofs.Channels.{once-fresh, once-taken, shared-take, shared-give}
+use Rattle.channels.proofs.Numbers.{once-fresh, once-taken, shared-take, shared-give}
 
 -- ---- each lawful effect keeps it
 

@@ -18,7 +18,7 @@ use Rattle.performatives.specs.Performative.{Performative}
 use Rattle.frame_decoder.specs.Frame.{Frame, readFrame}
 use Rattle.frame_encoder.specs.Frames.{Settings, frameBytes, limited}
 use Rattle.frame_encoder.proofs.Laws.{length-frame}
-use Rattle.connection_model.specs.States.{State, OpenReceived, Opened, CloseReceived, Discarding, is, isOneOf, Move, _⇒_, along, sendHeader, receiveHeader, sendOpen, readOpen, sendClose, readClose, reading, sending, stopped}
+use Rattle.connection_state.specs.States.{State, OpenReceived, Opened, CloseReceived, Discarding, is, isOneOf, Move, _⇒_, along, sendHeader, receiveHeader, sendOpen, readOpen, sendClose, readClose, reading, sending, stopped}
 use Rattle.connection_model.specs.Connection.{Role, dialler, listener, Connection, connection, sendHeaderTo, receiveHeaderFrom, sendOpenTo, receiveFrame, sendCloseTo, sendSessionFrame, allocate, Answer, channel, Effect, stay, go, Outcome, says, writes, passOn, frameRead, tiedBy, sessionSent, given, released, decide, answered, after, next}
 use Rattle.connection_model.specs.Callers.{areBytes, isSlice, isValid}
 use Rattle.connection_model.proofs.Valid.{both, slice-is, slice-frame, slice-replicate, bytes-replicate, bytes-number}

@@ -16,7 +16,8 @@ use Rattle.performatives.specs.Performative.{Performative, performative, remote
 use Rattle.frame_decoder.specs.Frame.{Frame, frame, content, bodyIn, readFrame, within, beginsFor, anySize, anyChannel, sessionPerformative, sessionFrame}
 use Rattle.frame_encoder.specs.Frames.{Settings, ErrorText, limited}
 use Rattle.session_frame.specs.Session.{sessionBytes}
-use Rattle.connection_model.specs.States.{State, Start, HeaderReceived, HeaderSent, HeaderExchange, OpenPipe, OpenClosePipe, OpenReceived, OpenSent, ClosePipe, Opened, CloseReceived, CloseSent, Discarding, End, numbered, is, isOneOf, Move, _⇒_, along, sendHeader, receiveHeader, receiveOtherHeader, sendOpen, readOpen, sendClose, sendCloseWithError, readClose, reading, sending, silent}
+use Rattle.connection_state.specs.States.{State, Start, HeaderReceived, HeaderSent, HeaderExchange, OpenPipe, OpenClosePipe, OpenReceived, OpenSent, ClosePipe, Opened, CloseReceived, CloseSent, Discarding, End, numbered, is, isOneOf, Move, _⇒_, along, sendHeader, receiveHeader, receiveOtherHeader, sendOpen, readOpen, sendClose, sendCloseWithError, readClose, reading, sending, silent}
+use Rattle.connection_state.proofs.States.{states, numbered-state, is-state}
 use Rattle.connection_model.specs.Sound.{stage}
 use Rattle.connection_model.specs.Connection.{Role, dialler, listener, Connection, Call, sendHeaderTo, receiveHeaderFrom, sendOpenTo, receiveFrame, sendCloseTo, sendSessionFrame, allocate, deallocate, tick, Effect, stay, go, agree, take, give, tie, takeAndTie, Outcome, headed, tieTo, untie, passOn, newSession, begun, openRead, sessionRead, performativeRead, frameRead, closes, tiedBy, sessionSent, given, released, decide}
 
@@ -79,30 +80,6 @@ either true d t p q = p tt
 either false d t p q = q t
 
 -- ---- states
-
-abbrev pub states : List State
-states =
-    Start ∷ HeaderReceived ∷ HeaderSent ∷ HeaderExchange ∷ OpenPipe ∷ OpenClosePipe ∷ OpenReceived ∷ OpenSent ∷ ClosePipe ∷ Opened ∷ CloseReceived
-    ∷ CloseSent ∷ Discarding ∷ End ∷ []
-
-pub numbered-state : (x : State) → getD states (numbered x) End ≡ x
-numbered-state Start = refl
-numbered-state HeaderReceived = refl
-numbered-state HeaderSent = refl
-numbered-state HeaderExchange = refl
-numbered-state OpenPipe = refl
-numbered-state OpenClosePipe = refl
-numbered-state OpenReceived = refl
-numbered-state OpenSent = refl
-numbered-state ClosePipe = refl
-numbered-state Opened = refl
-numbered-state CloseReceived = refl
-numbered-state CloseSent = refl
-numbered-state Discarding = refl
-numbered-state End = refl
-
-pub is-state : (a b : State) → T (is a b) → a ≡ b
-is-state a b t = sym (numbered-state a) ∙ ap (λ n. getD states n End) (eqb→eq (numbered a) (numbered b) t) ∙ numbered-state b
 
 -- a test that passes at each of some states, at each row of a table
 abbrev pub each : (State → Bool) → List State → Bool

@@ -16,7 +16,7 @@ use Rattle.performatives.specs.Performative.{descriptor, performativeBy, fields
 use Rattle.frame_decoder.specs.Frame.{frame, bodyIn, content, readFrame, sessionPerformative, sessionFrame}
 use Rattle.serializer.specs.Written.{uint, ushort, textHeader, text, listHeader, joined, trimmed, compositeHeader, composite}
 use Rattle.frame_encoder.specs.Frames.{Settings, frameHeader, frameBytes, limited, idleField, openFields, errorField}
-use Rattle.connection_model.specs.States.{State, Opened}
+use Rattle.connection_state.specs.States.{State, Opened}
 use Rattle.connection_model.specs.Connection.{dialler, listener, fresh, Call, sendHeaderTo, receiveHeaderFrom, sendOpenTo, receiveFrame, sendCloseTo, allocate, deallocate, tick, Answer, wrote, stop, header, nothingToDo, opened, closed, forward, channel, freed, Seen, run, seenIn}
 
 abbrev answersOf : List Seen → List (Verdict Answer)

@@ -4,8 +4,9 @@ use mathlib.Core.Bool.{Bool, true, false}
 use mathlib.Core.List.{List, [], _∷_}
 use mathlib.Core.Option.{Option, none, some}
 use Prim.Native.Nat.{ℕ}
-use Rattle.connection_model.specs.States.{State, OpenReceived, Opened, CloseReceived, is, isOneOf}
-use Rattle.connection_model.specs.Connection.{Map, Connection}
+use Rattle.connection_state.specs.States.{State, OpenReceived, Opened, CloseReceived, is, isOneOf}
+use Rattle.channels.specs.Numbers.{Map}
+use Rattle.connection_model.specs.Connection.{Connection}
 
 abbrev pub when : {A : Type 0} → Bool → A → Option A
 when true a = some a

@@ -14,22 +14,13 @@ use Rattle.performatives.specs.Performative.{Performative, maxFrameSize, channe
 use Rattle.frame_decoder.specs.Frame.{Frame, readFrame, sessionFrame, beginsFor}
 use Rattle.frame_encoder.specs.Frames.{Settings, ErrorText, frameBytes, limited, openBody, closeOk, closeBody}
 use Rattle.session_frame.specs.Session.{sessionBytes}
-use Rattle.connection_model.specs.States.{State, Start, Discarding, End, is, isOneOf, along, sendHeader, receiveHeader, receiveOtherHeader, sendOpen, readOpen, sendClose, sendCloseWithError, readClose, reading, sending, stopped, silent}
+use Rattle.channels.specs.Numbers.{Map, nowhere, with, upFrom, freedFirst}
+use Rattle.connection_state.specs.States.{State, Start, Discarding, End, is, isOneOf, along, sendHeader, receiveHeader, receiveOtherHeader, sendOpen, readOpen, sendClose, sendCloseWithError, readClose, reading, sending, stopped, silent}
 
 -- ---- what a connection is made with, and what it holds
 
 pub data Role : Type 0 where
   dialler listener : Role
-
--- numbers to handles, for those that have one
-abbrev pub Map : Type 0
-Map = ℕ → Option ℕ
-
-abbrev pub nowhere : Map
-nowhere n = none
-
-abbrev pub with : Map → ℕ → Option ℕ → Map
-with f k v n = cond (eqb k n) v (f n)
 
 -- handOut is the list of numbers that allocating would give in turn; there is none before the peer's Open
 pub record Connection : Type 0 where
@@ -99,17 +90,6 @@ says a e = accept (record { answer = a; effect = e; bytes = [] })
 
 abbrev pub writes : List ℕ → Effect → Verdict Outcome
 writes bytes e = accept (record { answer = wrote (length bytes); effect = e; bytes = bytes })
-
--- ---- channel numbers
-
-abbrev pub upFrom : ℕ → ℕ → List ℕ
-upFrom k zero = []
-upFrom k (suc n) = k ∷ upFrom (suc k) n
-
--- a freed number is the next that is given
-abbrev pub freedFirst : ℕ → Option (List ℕ) → Option (List ℕ)
-freedFirst ch none = none
-freedFirst ch (some l) = some (ch ∷ l)
 
 abbrev pub connection : State → ℕ → ℕ → Option ℕ → Option (List ℕ) → Map → Map → Connection
 connection x r w m l tk ti = record { state = x; readingLimit = r; writingLimit = w; agreedMax = m; handOut = l; taken = tk; ties = ti }

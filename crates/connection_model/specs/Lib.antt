@@ -1,4 +1,3 @@
-pub mod States
 pub mod Connection
 pub mod Sound
 pub mod Account

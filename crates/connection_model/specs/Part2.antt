@@ -6,7 +6,7 @@ use mathlib.Core.List.{List, [], _∷_, _++_}
 use Prim.Native.Nat.{ℕ}
 use lib.Dec.{eqb}
 use Rattle.octets.specs.Verdict.{Verdict, refuse, accept}
-use Rattle.connection_model.specs.States.{State, Start, HeaderReceived, HeaderSent, HeaderExchange, OpenPipe, OpenClosePipe, OpenReceived, OpenSent, ClosePipe, Opened, CloseReceived, CloseSent, Discarding, End, numbered, Move, _⇒_, along, sendHeader, receiveHeader, sendOpen, readOpen, sendClose, sendCloseWithError, readClose}
+use Rattle.connection_state.specs.States.{State, Start, HeaderReceived, HeaderSent, HeaderExchange, OpenPipe, OpenClosePipe, OpenReceived, OpenSent, ClosePipe, Opened, CloseReceived, CloseSent, Discarding, End, numbered, Move, _⇒_, along, sendHeader, receiveHeader, sendOpen, readOpen, sendClose, sendCloseWithError, readClose}
 
 -- a matching header is received while an Open, or an Open and a Close, are under way
 abbrev pub receiveHeader₂ : List Move

@@ -1,4 +1,4 @@
--- What holds of every connection that calls can lead to: the channel numbers (document 01, "Channel numbers"), the limits, and what there is not yet before the peer's Open.
+-- What holds of every connection that calls can lead to: the limits, the channel numbers, and what there is not yet before the peer's Open.
 -- Assumes nothing: these are definitions.
 use mathlib.Core.Path.{_≡_}
 use mathlib.Core.Logic.{_⊎_}
@@ -8,39 +8,9 @@ use mathlib.Core.Option.{Option, none, some}
 use Prim.Native.Nat.{ℕ, zero, suc, _+_, _≤_}
 use lib.Dec.{leb, eqb}
 use Rattle.frame_encoder.specs.Frames.{Settings}
-use Rattle.connection_model.specs.States.{State, Start, HeaderReceived, HeaderSent, HeaderExchange, OpenPipe, OpenClosePipe, OpenReceived, OpenSent, ClosePipe, Opened, CloseReceived, CloseSent, Discarding, End}
-use Rattle.connection_model.specs.Connection.{Map, nowhere, Connection}
-
--- ---- channel numbers
-
-abbrev pub one : Bool → ℕ
-one true = 1
-one false = 0
-
-abbrev pub isTaken : Option ℕ → ℕ
-isTaken none = 0
-isTaken (some h) = 1
-
--- how often k stands in a list
-abbrev pub count : ℕ → List ℕ → ℕ
-count k [] = 0
-count k (j ∷ l) = one (eqb j k) + count k l
-
--- the numbers of the list and those that are taken are together 0 to m, each once
-abbrev pub EachOnce : ℕ → List ℕ → Map → Type 0
-EachOnce m l tk = (k : ℕ) → count k l + isTaken (tk k) ≡ one (leb k m)
-
--- the same of a connection's parts: before the peer's Open there is no list, and nothing is taken
-abbrev pub Shared : Option ℕ → Option (List ℕ) → Map → Type 0
-Shared none none tk = tk ≡ nowhere
-Shared none (some l) tk = ⊥
-Shared (some m) none tk = ⊥
-Shared (some m) (some l) tk = EachOnce m l tk
-
--- how many of the numbers below n are taken
-unfoldable pub takenBelow : ℕ → Map → ℕ
-takenBelow zero tk = 0
-takenBelow (suc n) tk = isTaken (tk n) + takenBelow n tk
+use Rattle.connection_state.specs.States.{State, Start, HeaderReceived, HeaderSent, HeaderExchange, OpenPipe, OpenClosePipe, OpenReceived, OpenSent, ClosePipe, Opened, CloseReceived, CloseSent, Discarding, End}
+use Rattle.channels.specs.Numbers.{Map, nowhere, Shared}
+use Rattle.connection_model.specs.Connection.{Connection}
 
 -- how far a connection is: 0 before the peer's Open or Close, 1 with the peer's Open alone, 2 with both Opens, 3 with the peer's Close, 4 where nothing but a tick is written any more
 abbrev pub stage : State → ℕ

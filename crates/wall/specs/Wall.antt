@@ -19,7 +19,7 @@ use Rattle.performatives.specs.Performative.{Performative, numberOf, sized, lis
 use Rattle.frame_decoder.specs.Frame.{frame, bodyIn, content, readFrame}
 use Rattle.serializer.specs.Written.{uint, ushort, textHeader, text, listHeader, joined, trimmed, compositeHeader, composite}
 use Rattle.frame_encoder.specs.Frames.{Settings, frameHeader, frameBytes, limited, idleField, openFields, openBody, errorField, closeBody}
-use Rattle.connection_model.specs.States.{numbered}
+use Rattle.connection_state.specs.States.{numbered}
 use Rattle.connection_model.specs.Connection.{dialler, fresh, Call, sendHeaderTo, receiveHeaderFrom, sendOpenTo, receiveFrame, sendCloseTo, allocate, deallocate, Answer, wrote, stop, header as headerCame, otherProtocol, nothingToDo, opened, closed, forward, began, channel, freed, Seen, run, seenIn}
 
 abbrev descriptorOf : Option Performative → List ℕ

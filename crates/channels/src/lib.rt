@@ -1,0 +1,240 @@
+// The channel tables of a connection: handles by number, and the outgoing channel numbers, taken and free.
+ghost use mathlib.Core.Path.{_≡_};
+ghost use mathlib.Core.Option.{none, some};
+ghost use Rattle.channels.specs.Numbers.{nowhere, with};
+ghost use Rattle.channels.specs.Channels.{handlesSay, heldSays, takenSays, agreedSays, agreedMaxSays, Ascends, Fresh, Opens, Allocates, Frees, Counts};
+
+// Handles by number: which of 256 numbers have one, and which it is.
+pub struct Handles {
+    held: [bool; 256],
+    handles: [u32; 256],
+}
+
+// What a number has.
+pub enum Held {
+    Handle(u32),
+    Nothing,
+}
+
+impl Handles {
+    // No number has a handle.
+    pub fn new() -> Handles
+        ensures { λ r. ⌜ handlesSay r ≡ nowhere ⌝ }
+    {
+        let held = [false; 256];
+        let handles = [0u32; 256];
+        Handles { held, handles }
+    }
+
+    // The handle of a number. A number above 255 has none.
+    pub fn get(self, k: u16) -> Held
+        ensures { λ r. ⌜ heldSays r ≡ handlesSay self k ⌝ }
+    {
+        if 255 < k {
+            return Held::Nothing;
+        }
+        let i = k as usize;
+        let held = self.held[i];
+        if held {
+            let handle = self.handles[i];
+            return Held::Handle(handle);
+        }
+        Held::Nothing
+    }
+
+    // The number has this handle from now on.
+    pub fn insert(mut self, k: u8, handle: u32) -> Handles
+        ensures { λ r. ⌜ handlesSay r ≡ with (handlesSay self) k (some handle) ⌝ }
+    {
+        let i = k as usize;
+        self.held[i] = true;
+        self.handles[i] = handle;
+        self
+    }
+
+    // The number has no handle from now on.
+    pub fn remove(mut self, k: u8) -> Handles
+        ensures { λ r. ⌜ handlesSay r ≡ with (handlesSay self) k none ⌝ }
+    {
+        let i = k as usize;
+        self.held[i] = false;
+        self
+    }
+}
+
+// The outgoing channel numbers: those taken, with their handles, and those free, linked in the order in which they will be handed out.
+// `left` numbers from `head` on, by the links, are free. `highest` is the agreed channel-max.
+// `opened` says whether the peer's Open has come, before which there are no numbers.
+pub struct OutgoingChannels {
+    sessions: Handles,
+    links: [u8; 256],
+    head: u8,
+    left: u16,
+    highest: u8,
+    opened: bool,
+}
+
+// What allocating answers: a number, that the peer's Open has not come, or that every number is taken.
+pub enum Allocated {
+    Channel(u8),
+    NotOpened,
+    Full,
+}
+
+pub struct Allocation {
+    pub answer: Allocated,
+    pub channels: OutgoingChannels,
+}
+
+// What deallocating answers: the handle that the number had, or nothing where it was not taken.
+pub struct Deallocation {
+    pub answer: Held,
+    pub channels: OutgoingChannels,
+}
+
+// A channel-max that was agreed, or that none was: there is none before the peer's Open.
+pub enum AgreedMax {
+    Absent,
+    Is(u8),
+}
+
+// The links that lead from each number to the next.
+fn ascending() -> [u8; 256]
+    ensures { λ r. ⌜ Ascends r ⌝ }
+{
+    let mut links = [0u8; 256];
+    let mut k: u8 = 0;
+    while k < 255 {
+        let i = k as usize;
+        links[i] = k + 1;
+        k += 1;
+    }
+    links
+}
+
+impl OutgoingChannels {
+    // Nothing is agreed, and nothing is taken.
+    pub fn new() -> OutgoingChannels
+        ensures { λ r. ⌜ Fresh r ⌝ }
+    {
+        let sessions = Handles::new();
+        let links = [0u8; 256];
+        OutgoingChannels {
+            sessions,
+            links,
+            head: 0,
+            left: 0,
+            highest: 0,
+            opened: false,
+        }
+    }
+
+    // The peer's Open: the numbers from 0 to the agreed channel-max are free, in this order.
+    pub fn open(mut self, highest: u8) -> OutgoingChannels
+        ensures { λ r. ⌜ Opens self highest r ⌝ }
+    {
+        let links = ascending();
+        self.links = links;
+        self.head = 0;
+        self.left = (highest as u16) + 1;
+        self.highest = highest;
+        self.opened = true;
+        self
+    }
+
+    // Hands out the first free number to the handle.
+    pub fn allocate(mut self, handle: u32) -> Allocation
+        ensures { λ r. ⌜ Allocates self handle r ⌝ }
+    {
+        if !self.opened {
+            return Allocation {
+                answer: Allocated::NotOpened,
+                channels: self,
+            };
+        }
+        let left = self.left;
+        if left == 0 {
+            return Allocation {
+                answer: Allocated::Full,
+                channels: self,
+            };
+        }
+        let channel = self.head;
+        let i = channel as usize;
+        let next = self.links[i];
+        let sessions = self.sessions;
+        let taken = sessions.insert(channel, handle);
+        self.sessions = taken;
+        self.head = next;
+        self.left = left - 1;
+        Allocation {
+            answer: Allocated::Channel(channel),
+            channels: self,
+        }
+    }
+
+    // Frees a number. It is the next that is handed out.
+    pub fn deallocate(mut self, channel: u16) -> Deallocation
+        ensures { λ r. ⌜ Frees self channel r ⌝ }
+    {
+        let left = self.left;
+        if 255 < left {
+            return Deallocation {
+                answer: Held::Nothing,
+                channels: self,
+            };
+        }
+        let sessions = self.sessions;
+        let Held::Handle(handle) = sessions.get(channel) else {
+            return Deallocation {
+                answer: Held::Nothing,
+                channels: self,
+            };
+        };
+        let k = channel as u8;
+        let i = channel as usize;
+        let head = self.head;
+        let taken = sessions.remove(k);
+        self.sessions = taken;
+        self.links[i] = head;
+        self.head = k;
+        self.left = left + 1;
+        Deallocation {
+            answer: Held::Handle(handle),
+            channels: self,
+        }
+    }
+
+    // The handle that a number is taken by, if it is taken.
+    pub fn handle_at(self, channel: u16) -> Held
+        ensures { λ r. ⌜ heldSays r ≡ takenSays self channel ⌝ }
+    {
+        let sessions = self.sessions;
+        sessions.get(channel)
+    }
+
+    // The agreed channel-max.
+    pub fn agreed_max(self) -> AgreedMax
+        ensures { λ r. ⌜ agreedMaxSays r ≡ agreedSays self ⌝ }
+    {
+        if self.opened {
+            return AgreedMax::Is(self.highest);
+        }
+        AgreedMax::Absent
+    }
+
+    // How many numbers are taken.
+    pub fn taken_count(self) -> u16
+        ensures { λ r. ⌜ Counts self r ⌝ }
+    {
+        if !self.opened {
+            return 0;
+        }
+        let left = self.left;
+        let all = (self.highest as u16) + 1;
+        if all < left {
+            return 0;
+        }
+        all - left
+    }
+}
