@@ -2,3 +2,4 @@
 pub mod Numbers
 pub mod Counting
 pub mod Steps
+pub mod Laws

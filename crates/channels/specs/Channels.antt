@@ -58,7 +58,7 @@ nextOf none = refuse 21
 nextOf (some []) = refuse 23
 nextOf (some (ch ∷ rest)) = accept ch
 
--- every taken number and every free one is there once
+-- the free numbers and the taken ones are together 0 to the agreed channel-max, each once; before the peer's Open there are none
 abbrev pub SharedBy : OutgoingChannels → Type 0
 SharedBy t = Shared (agreedSays t) (handOutSays t) (takenSays t)
 

@@ -1,0 +1,61 @@
+-- `endpoint::Endpoint::on_incoming_begin` meets its contract: a law for each of the three returns.
+-- Assumes nothing.
+use borrow.Author.Needs.{needs}
+use Rattle.endpoint.proofs.Receiving.{names-none, names-unknown, tied}
+use Rattle.endpoint.proofs.Endpoint.on_incoming_begin.Statement.{statement}
+use Rattle.endpoint.proofs.Endpoint.on_incoming_begin.Tie as tie
+
+ruleset steps = (names-none, names-unknown, tied, needs)
+
+enum-known-remote : tie.Need-enum-known-remote
+enum-known-remote c = search needs
+
+enum-told : tie.Need-enum-told
+enum-told c = search needs
+
+on-new-session-requires : tie.Need-on-new-session-requires
+on-new-session-requires c κs = search needs
+
+returns : tie.Need-returns
+returns c = search steps
+
+handle-at-requires : tie.Need-handle-at-requires
+handle-at-requires c κs = search needs
+
+enum-known-handle : tie.Need-enum-known-handle
+enum-known-handle c = search needs
+
+enum-told-2 : tie.Need-enum-told-2
+enum-told-2 c = search needs
+
+refused-requires : tie.Need-refused-requires
+refused-requires c κs = search needs
+
+returns-2 : tie.Need-returns-2
+returns-2 c = search steps
+
+insert-requires : tie.Need-insert-requires
+insert-requires c κs = search needs
+
+forward-requires : tie.Need-forward-requires
+forward-requires c κs = search needs
+
+returns-3 : tie.Need-returns-3
+returns-3 c = search steps
+
+pub on-incoming-begin-spec : {M : Type 1} → statement M
+on-incoming-begin-spec =
+    tie.close
+    (tie.spec
+    enum-known-remote
+    enum-told
+    on-new-session-requires
+    returns
+    handle-at-requires
+    enum-known-handle
+    enum-told-2
+    refused-requires
+    returns-2
+    insert-requires
+    forward-requires
+    returns-3)

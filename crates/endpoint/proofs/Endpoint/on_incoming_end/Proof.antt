@@ -1,0 +1,49 @@
+-- `endpoint::Endpoint::on_incoming_end` meets its contract: a law for each of the two returns.
+-- Assumes nothing.
+use borrow.Author.Needs.{needs}
+use Rattle.endpoint.proofs.Receiving.{not-untied, untied}
+use Rattle.endpoint.proofs.Endpoint.on_incoming_end.Statement.{statement}
+use Rattle.endpoint.proofs.Endpoint.on_incoming_end.Tie as tie
+
+ruleset steps = (not-untied, untied, needs)
+
+cast-get : tie.Need-cast-get
+cast-get c = search needs
+
+get-requires : tie.Need-get-requires
+get-requires c κs = search needs
+
+enum-known-handle : tie.Need-enum-known-handle
+enum-known-handle c = search needs
+
+enum-told : tie.Need-enum-told
+enum-told c = search needs
+
+refused-requires : tie.Need-refused-requires
+refused-requires c κs = search needs
+
+returns : tie.Need-returns
+returns c = search steps
+
+remove-requires : tie.Need-remove-requires
+remove-requires c κs = search needs
+
+forward-requires : tie.Need-forward-requires
+forward-requires c κs = search needs
+
+returns-2 : tie.Need-returns-2
+returns-2 c = search steps
+
+pub on-incoming-end-spec : {M : Type 1} → statement M
+on-incoming-end-spec =
+    tie.close
+    (tie.spec
+    cast-get
+    get-requires
+    enum-known-handle
+    enum-told
+    refused-requires
+    returns
+    remove-requires
+    forward-requires
+    returns-2)

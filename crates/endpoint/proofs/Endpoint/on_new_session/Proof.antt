@@ -1,0 +1,61 @@
+-- `endpoint::Endpoint::on_new_session` meets its contract: a law for each of the three returns.
+-- Assumes nothing.
+use borrow.Author.Needs.{needs}
+use Rattle.endpoint.proofs.Receiving.{dialled, not-allocated, taken-and-tied}
+use Rattle.endpoint.proofs.Endpoint.on_new_session.Statement.{statement}
+use Rattle.endpoint.proofs.Endpoint.on_new_session.Tie as tie
+
+ruleset steps = (dialled, not-allocated, taken-and-tied, needs)
+
+enum-told : tie.Need-enum-told
+enum-told c = search needs
+
+enum-told-2 : tie.Need-enum-told-2
+enum-told-2 c = search needs
+
+refused-requires : tie.Need-refused-requires
+refused-requires c κs = search needs
+
+returns : tie.Need-returns
+returns c = search steps
+
+allocate-requires : tie.Need-allocate-requires
+allocate-requires c κs = search needs
+
+enum-known-answer : tie.Need-enum-known-answer
+enum-known-answer c = search needs
+
+refused-requires-2 : tie.Need-refused-requires-2
+refused-requires-2 c κs = search needs
+
+returns-2 : tie.Need-returns-2
+returns-2 c = search steps
+
+cast-number : tie.Need-cast-number
+cast-number c = search needs
+
+insert-requires : tie.Need-insert-requires
+insert-requires c κs = search needs
+
+body-len-requires : tie.Need-body-len-requires
+body-len-requires c κs = search needs
+
+returns-3 : tie.Need-returns-3
+returns-3 c = search steps
+
+pub on-new-session-spec : {M : Type 1} → statement M
+on-new-session-spec =
+    tie.close
+    (tie.spec
+    enum-told
+    enum-told-2
+    refused-requires
+    returns
+    allocate-requires
+    enum-known-answer
+    refused-requires-2
+    returns-2
+    cast-number
+    insert-requires
+    body-len-requires
+    returns-3)

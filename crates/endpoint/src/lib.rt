@@ -1,0 +1,531 @@
+// What one end of a connection holds besides its state: its role, its settings, the limits of the frames that it reads and writes, and the
+// sessions by outgoing and by incoming channel.
+use channels::AgreedMax;
+use channels::Allocated;
+use channels::Handles;
+use channels::Held;
+use channels::OutgoingChannels;
+use connection_state::ConnectionState;
+use frame_decoder::Frame;
+use local_open::LocalOpen;
+use octets::Written;
+use performatives::Performative;
+use performatives::RemoteChannel;
+ghost use mathlib.Core.Path.{_≡_};
+ghost use mathlib.Core.Bool.{cond};
+ghost use mathlib.Core.List.{[]};
+ghost use Prim.Native.Nat.{_-_, min};
+ghost use lib.Dec.{eqb};
+ghost use Rattle.octets.specs.Verdict.{refuse, accept};
+ghost use Rattle.octets.specs.declared.Written.the-variants.{Refused as NotWritten};
+ghost use Rattle.performatives.specs.Answers.{performativeSays, channelSays};
+ghost use Rattle.session_frame.specs.Session.{writeSession};
+ghost use Rattle.connection_state.specs.States.{Start, Opened};
+ghost use Rattle.connection_model.specs.Connection.{clamped, forwarded, given, sessionRead, begun, newSession, untie, passOn, tiedBy, decide, sendSessionFrame};
+ghost use Rattle.connection_state.specs.Answers.{stateSays};
+ghost use Rattle.channels.specs.Channels.{heldSays, agreedMaxSays};
+ghost use Rattle.local_open.specs.Settings.{openSays};
+ghost use Rattle.endpoint.specs.declared.FrameAnswer.the-variants.{Refused};
+ghost use Rattle.endpoint.specs.Answers.{
+  roleOf,
+  settingsOf,
+  agreedOf,
+  handOutOf,
+  takenOf,
+  tiesOf,
+  viewAs,
+  frameOf,
+  answerSays,
+  sentSays,
+  allocateSays,
+  tieSays,
+  refusalOf,
+};
+ghost use Rattle.endpoint.specs.Promises.{Steps, Sends, Begins, Agrees, Frees, Counts};
+ghost use Rattle.endpoint.specs.Outgoing.{Low, Ties, tiesAndWrites};
+
+// Who opened the transport: a dialler starts sessions only of its own, a listener also takes those that its peer starts.
+pub enum Role {
+    Dialler,
+    Listener,
+}
+
+pub struct Endpoint {
+    role: Role,
+    local_open: LocalOpen,
+    reading_limit: u32,
+    writing_limit: u32,
+    outgoing: OutgoingChannels,
+    incoming: Handles,
+}
+
+// A frame that came and has a performative: its channel, its length, and where its body starts.
+pub struct Incoming {
+    pub channel: u8,
+    pub size: usize,
+    pub from: usize,
+}
+
+// What comes of a frame. Each but the refusal has the number of bytes that were consumed.
+// A body that goes on to a session has the session's handle, its own place and its length.
+pub enum FrameAnswer {
+    NothingToDo {
+        consumed: usize,
+    },
+    Opened {
+        consumed: usize,
+        idle_time_out: u32,
+    },
+    Closed {
+        consumed: usize,
+        with_error: bool,
+    },
+    Forward {
+        consumed: usize,
+        code: u8,
+        handle: u32,
+        from: usize,
+        len: usize,
+    },
+    Began {
+        consumed: usize,
+        channel: u16,
+        handle: u32,
+        from: usize,
+        len: usize,
+    },
+    Refused(u8),
+}
+
+pub struct Routed {
+    pub answer: FrameAnswer,
+    pub endpoint: Endpoint,
+}
+
+pub struct SessionSent {
+    pub answer: Written,
+    pub endpoint: Endpoint,
+}
+
+pub struct SessionAllocated {
+    pub answer: Allocated,
+    pub endpoint: Endpoint,
+}
+
+pub struct SessionDeallocated {
+    pub answer: Held,
+    pub endpoint: Endpoint,
+}
+
+// What a session's frame that goes out does to the ties.
+enum OutgoingTie {
+    Stay,
+    To { incoming: u16, handle: u32 },
+    NotFound,
+}
+
+// The least and the most that a limit of frames may be.
+const MIN_MAX_FRAME_SIZE: u32 = 512;
+
+const MAX_FRAME_SIZE: u32 = 16384;
+
+// A writing limit is at least 512 and at most 16,384.
+fn clamped(max_frame_size: u32) -> u32
+    ensures { λ r. ⌜ r ≡ clamped «max_frame_size» ⌝ }
+{
+    if max_frame_size < MIN_MAX_FRAME_SIZE {
+        return MIN_MAX_FRAME_SIZE;
+    }
+    if MAX_FRAME_SIZE < max_frame_size {
+        return MAX_FRAME_SIZE;
+    }
+    max_frame_size
+}
+
+// The smaller of the two channel-max.
+fn smaller(local: u8, remote: u16) -> u8
+    ensures { λ r. ⌜ r ≡ min local remote ⌝ }
+{
+    if remote < (local as u16) {
+        return remote as u8;
+    }
+    local
+}
+
+// A body that goes on to a session.
+fn forward(frame: Incoming, code: u8, handle: u32) -> FrameAnswer
+    ensures { λ r. ⌜ answerSays r ≡ accept (forwarded (frameOf frame) code handle) ⌝ }
+{
+    FrameAnswer::Forward {
+        consumed: frame.size,
+        code,
+        handle,
+        from: frame.from,
+        len: body_len(frame),
+    }
+}
+
+fn body_len(frame: Incoming) -> usize
+    ensures { λ r. ⌜ r ≡ frame .size - frame .from ⌝ }
+{
+    if frame.size < frame.from {
+        return 0;
+    }
+    frame.size - frame.from
+}
+
+// The refusal of a frame that is to be sent; an empty one is refused too.
+fn refusal(frame: Frame) -> u8
+    ensures { λ r. ⌜ r ≡ refusalOf frame ⌝ }
+{
+    match frame {
+        Frame::Refused(k) => k,
+        Frame::Empty {
+            channel: _,
+            size: _,
+            from: _,
+        } => 6,
+        Frame::Body {
+            channel: _,
+            size: _,
+            from: _,
+            performative: _,
+            end: _,
+        } => 6,
+    }
+}
+
+impl Endpoint {
+    pub fn new(role: Role, local_open: LocalOpen) -> Endpoint
+        ensures { λ r. ⌜ Begins role «local_open» r ⌝ }
+    {
+        let outgoing = OutgoingChannels::new();
+        let incoming = Handles::new();
+        Endpoint {
+            role,
+            local_open,
+            reading_limit: MIN_MAX_FRAME_SIZE,
+            writing_limit: MIN_MAX_FRAME_SIZE,
+            outgoing,
+            incoming,
+        }
+    }
+
+    pub fn local_open(self) -> LocalOpen
+        ensures { λ r. ⌜ openSays r ≡ settingsOf self ⌝ }
+    {
+        self.local_open
+    }
+
+    pub fn reading_limit(self) -> u32
+        ensures { λ r. ⌜ r ≡ viewAs Start self .readingLimit ⌝ }
+    {
+        self.reading_limit
+    }
+
+    pub fn writing_limit(self) -> u32
+        ensures { λ r. ⌜ r ≡ viewAs Start self .writingLimit ⌝ }
+    {
+        self.writing_limit
+    }
+
+    // The channel-max that the peer was told
+    pub fn channel_max(self) -> u8
+        ensures { λ r. ⌜ r ≡ settingsOf self .channelMax ⌝ }
+    {
+        let open = self.local_open;
+        open.channel_max()
+    }
+
+    pub fn agreed_max(self) -> AgreedMax
+        ensures { λ r. ⌜ agreedMaxSays r ≡ agreedOf self ⌝ }
+    {
+        let outgoing = self.outgoing;
+        outgoing.agreed_max()
+    }
+
+    // The handle of the session on an outgoing channel
+    pub fn handle_at(self, channel: u16) -> Held
+        ensures { λ r. ⌜ heldSays r ≡ takenOf self channel ⌝ }
+    {
+        let outgoing = self.outgoing;
+        outgoing.handle_at(channel)
+    }
+
+    // The handle that an incoming channel is tied to
+    pub fn tied_handle(self, channel: u16) -> Held
+        ensures { λ r. ⌜ heldSays r ≡ tiesOf self channel ⌝ }
+    {
+        let incoming = self.incoming;
+        incoming.get(channel)
+    }
+
+    pub fn taken_count(self) -> u16
+        ensures { λ r. ⌜ Counts self r ⌝ }
+    {
+        let outgoing = self.outgoing;
+        outgoing.taken_count()
+    }
+
+    // The peer's Open: the limits and the channel-max are agreed.
+    pub fn open(mut self, max_frame_size: u32, channel_max: u16) -> Endpoint
+        ensures { λ r. ⌜ Agrees self «max_frame_size» «channel_max» r ⌝ }
+    {
+        let local = self.local_open;
+        let outgoing = self.outgoing;
+        let opened = outgoing.open(smaller(local.channel_max(), channel_max));
+        self.outgoing = opened;
+        self.reading_limit = local.max_frame_size();
+        self.writing_limit = clamped(max_frame_size);
+        self
+    }
+
+    pub fn allocate(mut self, handle: u32) -> SessionAllocated
+        ensures { λ r. ⌜ Steps (given handle (handOutOf self)) self (allocateSays (r .answer)) (r .endpoint) ⌝ }
+    {
+        let outgoing = self.outgoing;
+        let a = outgoing.allocate(handle);
+        let answer = a.answer;
+        let channels = a.channels;
+        self.outgoing = channels;
+        SessionAllocated {
+            answer,
+            endpoint: self,
+        }
+    }
+
+    pub fn deallocate(mut self, channel: u16) -> SessionDeallocated
+        ensures { λ r. ⌜ Frees self channel (r .answer) (r .endpoint) ⌝ }
+    {
+        let outgoing = self.outgoing;
+        let d = outgoing.deallocate(channel);
+        let answer = d.answer;
+        let channels = d.channels;
+        self.outgoing = channels;
+        SessionDeallocated {
+            answer,
+            endpoint: self,
+        }
+    }
+
+    fn refused(self, k: u8) -> Routed
+        ensures { λ r. ⌜ (r .answer ≡ Refused k) × (r .endpoint ≡ self) ⌝ }
+    {
+        Routed {
+            answer: FrameAnswer::Refused(k),
+            endpoint: self,
+        }
+    }
+
+    // A session's frame that came: its body goes on to the handle that its channel is tied to.
+    pub fn receive(
+        self,
+        state: ConnectionState,
+        frame: Incoming,
+        performative: Performative,
+        spare: u32,
+    ) -> Routed
+        ensures { λ r. ⌜ Steps (sessionRead (roleOf self) (viewAs (stateSays state) self) (frameOf frame) spare (performativeSays performative .0) (performativeSays performative .1)) self (answerSays (r .answer)) (r .endpoint) ⌝ }
+    {
+        if !state.takes_session_frames() {
+            return self.refused(20);
+        }
+        match performative {
+            Performative::Open {
+                max_frame_size: _,
+                channel_max: _,
+                idle_time_out: _,
+            } => self.pass_on(frame, 16),
+            Performative::Begin(remote) => self.on_incoming_begin(frame, remote, spare),
+            Performative::Attach => self.pass_on(frame, 18),
+            Performative::Flow => self.pass_on(frame, 19),
+            Performative::Transfer => self.pass_on(frame, 20),
+            Performative::Disposition => self.pass_on(frame, 21),
+            Performative::Detach(_) => self.pass_on(frame, 22),
+            Performative::End(_) => self.on_incoming_end(frame),
+            Performative::Close(_) => self.pass_on(frame, 24),
+        }
+    }
+
+    // A Begin that answers one of ours ties its channel to the session that it names. One that names none begins a session.
+    fn on_incoming_begin(mut self, frame: Incoming, remote: RemoteChannel, spare: u32) -> Routed
+        ensures { λ r. ⌜ Steps (begun (roleOf self) (viewAs Opened self) (frameOf frame) spare (channelSays remote)) self (answerSays (r .answer)) (r .endpoint) ⌝ }
+    {
+        let RemoteChannel::Is(r) = remote else {
+            return self.on_new_session(frame, spare);
+        };
+        let outgoing = self.outgoing;
+        let Held::Handle(handle) = outgoing.handle_at(r) else {
+            return self.refused(24);
+        };
+        let incoming = self.incoming;
+        let tied = incoming.insert(frame.channel, handle);
+        self.incoming = tied;
+        Routed {
+            answer: forward(frame, 17, handle),
+            endpoint: self,
+        }
+    }
+
+    // A listener gives the session that its peer began a channel and the spare handle.
+    fn on_new_session(mut self, frame: Incoming, spare: u32) -> Routed
+        ensures { λ r. ⌜ Steps (newSession (roleOf self) (frameOf frame) spare (handOutOf self)) self (answerSays (r .answer)) (r .endpoint) ⌝ }
+    {
+        let own_role = self.role;
+        let Role::Listener = own_role else {
+            return self.refused(25);
+        };
+        let outgoing = self.outgoing;
+        let a = outgoing.allocate(spare);
+        let answer = a.answer;
+        let Allocated::Channel(channel) = answer else {
+            return self.refused(25);
+        };
+        let number = channel as u16;
+        let channels = a.channels;
+        let incoming = self.incoming;
+        let tied = incoming.insert(frame.channel, spare);
+        self.outgoing = channels;
+        self.incoming = tied;
+        Routed {
+            answer: FrameAnswer::Began {
+                consumed: frame.size,
+                channel: number,
+                handle: spare,
+                from: frame.from,
+                len: body_len(frame),
+            },
+            endpoint: self,
+        }
+    }
+
+    // An End unties its channel.
+    fn on_incoming_end(mut self, frame: Incoming) -> Routed
+        ensures { λ r. ⌜ Steps (untie (frameOf frame) (tiesOf self (frame .channel))) self (answerSays (r .answer)) (r .endpoint) ⌝ }
+    {
+        let incoming = self.incoming;
+        let Held::Handle(handle) = incoming.get(frame.channel as u16) else {
+            return self.refused(24);
+        };
+        let untied = incoming.remove(frame.channel);
+        self.incoming = untied;
+        Routed {
+            answer: forward(frame, 23, handle),
+            endpoint: self,
+        }
+    }
+
+    fn pass_on(self, frame: Incoming, code: u8) -> Routed
+        ensures { λ r. ⌜ Steps (passOn (frameOf frame) code (tiesOf self (frame .channel))) self (answerSays (r .answer)) (r .endpoint) ⌝ }
+    {
+        let incoming = self.incoming;
+        let Held::Handle(handle) = incoming.get(frame.channel as u16) else {
+            return self.refused(24);
+        };
+        Routed {
+            answer: forward(frame, code, handle),
+            endpoint: self,
+        }
+    }
+
+    fn not_sent(self, k: u8) -> SessionSent
+        ensures { λ r. ⌜ (r .answer ≡ NotWritten k) × (r .endpoint ≡ self) ⌝ }
+    {
+        SessionSent {
+            answer: Written::Refused(k),
+            endpoint: self,
+        }
+    }
+
+    // A session's frame, lent whole, goes out on its channel.
+    pub fn send(self, state: ConnectionState, frame: &[u8], out: &mut [u8]) -> SessionSent
+        ensures { λ r. ⌜ Sends (decide (roleOf self) (settingsOf self) (viewAs (stateSays state) self) (sendSessionFrame (now (frame .entry)) (now (out .entry)))) self (sentSays (r .answer)) (r .endpoint) (now (out .entry)) (now (out .exit)) ⌝ }
+    {
+        if out.len() < 16384 {
+            return self.not_sent(9);
+        }
+        if (out.len() - 16384) / 2 < frame.len() {
+            return self.not_sent(9);
+        }
+        let highest = self.channel_max() as u16;
+        let read = frame_decoder::session_frame(frame, highest);
+        let Frame::Body {
+            channel,
+            size: _,
+            from: _,
+            performative,
+            end: _,
+        } = read
+        else {
+            return self.not_sent(refusal(read));
+        };
+        if !state.sends_session_frames() {
+            return self.not_sent(20);
+        }
+        let tie = self.outgoing_tie(channel, performative);
+        self.write_tied(tie, highest, frame, out)
+    }
+
+    // A listener's Begin that names a remote-channel ties it to the sender's handle.
+    fn outgoing_tie(self, channel: u16, performative: Performative) -> OutgoingTie
+        ensures { λ r. ⌜ tieSays r ≡ tiedBy (roleOf self) (cond (eqb (performativeSays performative .0) 17) (performativeSays performative .1) []) (takenOf self channel) ⌝ }
+    {
+        let role = self.role;
+        if let Role::Dialler = role {
+            return OutgoingTie::Stay;
+        }
+        let Performative::Begin(remote) = performative else {
+            return OutgoingTie::Stay;
+        };
+        let RemoteChannel::Is(r) = remote else {
+            return OutgoingTie::Stay;
+        };
+        let outgoing = self.outgoing;
+        let Held::Handle(handle) = outgoing.handle_at(channel) else {
+            return OutgoingTie::NotFound;
+        };
+        OutgoingTie::To {
+            incoming: r,
+            handle,
+        }
+    }
+
+    // Writes the frame, and ties once it is written.
+    fn write_tied(self, tie: OutgoingTie, highest: u16, frame: &[u8], out: &mut [u8]) -> SessionSent
+        requires { ⌜ Low tie ⌝ }
+        ensures { λ r. ⌜ Sends (tiesAndWrites (tieSays tie) (writeSession highest (now (frame .entry)) (self .«writing_limit») (now (out .entry)))) self (sentSays (r .answer)) (r .endpoint) (now (out .entry)) (now (out .exit)) ⌝ }
+    {
+        if let OutgoingTie::NotFound = tie {
+            return self.not_sent(24);
+        }
+        let answer = session_frame::write(frame, highest, self.writing_limit, out);
+        let Written::Bytes(n) = answer else {
+            return SessionSent {
+                answer,
+                endpoint: self,
+            };
+        };
+        SessionSent {
+            answer: Written::Bytes(n),
+            endpoint: self.tied(tie),
+        }
+    }
+
+    // The endpoint once the tie is made
+    fn tied(mut self, tie: OutgoingTie) -> Endpoint
+        requires { ⌜ Low tie ⌝ }
+        ensures { λ r. ⌜ Ties self tie r ⌝ }
+    {
+        let OutgoingTie::To {
+            incoming: channel,
+            handle,
+        } = tie
+        else {
+            return self;
+        };
+        let incoming = self.incoming;
+        let ties = incoming.insert(channel as u8, handle);
+        self.incoming = ties;
+        self
+    }
+}
