@@ -1,0 +1,6 @@
+-- Laws from the rules of the definition to the calls of the code.
+pub mod Calls
+pub mod Writing
+pub mod Reading
+pub mod Sessions
+pub mod Port
