@@ -17,6 +17,7 @@ use performatives::Condition;
 use performatives::Performative;
 use protocol_header::HeaderRead;
 use protocol_header::ProtocolHeader;
+use protocol_header::ProtocolId;
 ghost use mathlib.Core.Path.{_≡_};
 ghost use mathlib.Core.List.{[]};
 ghost use mathlib.Core.Option.{none, some};
@@ -115,7 +116,7 @@ pub struct Ticked {
 }
 
 // The room that a call asks of its lent output before it writes.
-const OUTPUT_ROOM: usize = 16384;
+const OUTPUT_ROOM: usize = Connection::MAX_FRAME_SIZE as usize;
 
 fn is_present(condition: Condition) -> bool
     ensures { λ r. ⌜ r ≡ hasError (conditionSays condition) ⌝ }
@@ -159,7 +160,7 @@ fn start(role: Role, local: LocalOpen) -> Connection
 
 impl Connection {
     // The protocol's id and version
-    pub const PROTOCOL_ID: u8 = 0;
+    pub const PROTOCOL_ID: ProtocolId = ProtocolId::Amqp;
 
     pub const MAJOR: u8 = 1;
 
@@ -319,7 +320,13 @@ impl Connection {
         let Moved::To(next) = state.send_header() else {
             return self.not_sent(20);
         };
-        let answer = protocol_header::write(ProtocolHeader::amqp(), out);
+        let header = ProtocolHeader::new(
+            Connection::PROTOCOL_ID,
+            Connection::MAJOR,
+            Connection::MINOR,
+            Connection::REVISION,
+        );
+        let answer = protocol_header::write(header, out);
         Sent {
             answer,
             connection: self.moved_if(answer, next),

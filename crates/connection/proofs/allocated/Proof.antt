@@ -1,31 +1,25 @@
-use Rattle.connection.proofs.Sessions.{handed-out}
+-- `allocated`: the channel that was handed out.
+-- Assumes nothing.
 use borrow.Author.Needs.{needs}
+use Rattle.connection.proofs.Sessions.{handed-out}
 use Rattle.connection.proofs.allocated.Statement.{statement}
 use Rattle.connection.proofs.allocated.Tie as tie
-use Rattle.connection.proofs.allocated.Reads as reads
-use Rattle.connection.proofs.allocated.Lts as lts
 
--- src/lib.rt:636:28
 enum-known-answer : tie.Need-enum-known-answer
 enum-known-answer c = search needs
 
--- src/lib.rt:637:33
 enum-told : tie.Need-enum-told
 enum-told c = search needs
 
--- src/lib.rt:638:28
 enum-told-2 : tie.Need-enum-told-2
 enum-told-2 c = search needs
 
--- src/lib.rt:632:1
 returns : tie.Need-returns
 returns c = search (handed-out, needs)
 
--- src/lib.rt:632:1
 returns-2 : tie.Need-returns-2
 returns-2 c = search needs
 
--- src/lib.rt:632:1
 returns-3 : tie.Need-returns-3
 returns-3 c = search needs
 

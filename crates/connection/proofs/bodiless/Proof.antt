@@ -1,31 +1,25 @@
-use Rattle.connection.proofs.Sessions.{bare-not, bare-empty, bare-body}
+-- `bodiless`: one law for each case.
+-- Assumes nothing.
 use borrow.Author.Needs.{needs}
+use Rattle.connection.proofs.Sessions.{bare-not, bare-empty, bare-body}
 use Rattle.connection.proofs.bodiless.Statement.{statement}
 use Rattle.connection.proofs.bodiless.Tie as tie
-use Rattle.connection.proofs.bodiless.Reads as reads
-use Rattle.connection.proofs.bodiless.Lts as lts
 
--- src/lib.rt:134:24
 enum-known-frame : tie.Need-enum-known-frame
 enum-known-frame c = search needs
 
--- src/lib.rt:137:13
 enum-known-frame-2 : tie.Need-enum-known-frame-2
 enum-known-frame-2 c = search needs
 
--- src/lib.rt:142:13
 enum-known-frame-3 : tie.Need-enum-known-frame-3
 enum-known-frame-3 c = search needs
 
--- src/lib.rt:130:1
 returns : tie.Need-returns
 returns c = search (bare-not, needs)
 
--- src/lib.rt:130:1
 returns-2 : tie.Need-returns-2
 returns-2 c = search (bare-empty, needs)
 
--- src/lib.rt:130:1
 returns-3 : tie.Need-returns-3
 returns-3 c = search (bare-body, needs)
 

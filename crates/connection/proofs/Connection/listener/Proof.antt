@@ -1,21 +1,16 @@
-use Rattle.connection.proofs.Calls.{makes}
+-- `listener`: sound and fresh.
+-- Assumes nothing.
 use borrow.Author.Needs.{needs}
+use Rattle.connection.proofs.Calls.{makes}
 use Rattle.connection.proofs.Connection.listener.Statement.{statement}
 use Rattle.connection.proofs.Connection.listener.Tie as tie
-use Rattle.connection.proofs.Connection.listener.Reads as reads
-use Rattle.connection.proofs.Connection.listener.Lts as lts
-use Rattle.connection.proofs.start.Reads as start-reads
-use Rattle.local_open.proofs.LocalOpen.new.Reads as new-reads
 
--- src/lib.rt:202:13
 new-requires : tie.Need-new-requires
 new-requires c κs = search needs
 
--- src/lib.rt:207:25
 start-requires : tie.Need-start-requires
 start-requires c κs = search needs
 
--- src/lib.rt:194:5
 returns : tie.Need-returns
 returns c = search (makes, needs)
 

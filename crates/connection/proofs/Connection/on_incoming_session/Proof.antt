@@ -1,16 +1,13 @@
-use Rattle.connection.proofs.Reading.{session-routed}
+-- `on_incoming_session`: what the endpoint does.
+-- Assumes nothing.
 use borrow.Author.Needs.{needs}
+use Rattle.connection.proofs.Reading.{session-routed}
 use Rattle.connection.proofs.Connection.on_incoming_session.Statement.{statement}
 use Rattle.connection.proofs.Connection.on_incoming_session.Tie as tie
-use Rattle.connection.proofs.Connection.on_incoming_session.Reads as reads
-use Rattle.connection.proofs.Connection.on_incoming_session.Lts as lts
-use Rattle.endpoint.proofs.Endpoint.receive.Reads as receive-reads
 
--- src/lib.rt:619:13
 receive-requires : tie.Need-receive-requires
 receive-requires c κs = search needs
 
--- src/lib.rt:609:5
 returns : tie.Need-returns
 returns c = search (session-routed, needs)
 
