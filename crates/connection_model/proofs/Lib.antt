@@ -3,6 +3,7 @@ pub mod Worked
 pub mod Rules
 pub mod Channels
 pub mod Invariant
+pub mod Routing
 pub mod Forward
 pub mod Valid
 pub mod ProbeFrames
