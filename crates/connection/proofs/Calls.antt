@@ -13,13 +13,17 @@ use Rattle.frame_encoder.specs.Frames.{Settings}
 use Rattle.connection_model.specs.Connection.{Role, Answer, Outcome, Call, decide, seen, next, lent, answered, after, written, fresh}
 use Rattle.connection_model.specs.Sound.{Reached}
 use Rattle.connection_model.proofs.Invariant.{reached-next, reached-fresh}
-use Rattle.endpoint.specs.Promises.{Steps, Sends, Same}
+use Rattle.endpoint.specs.Promises.{Steps, Sends, Same, Begins}
 use Rattle.endpoint.specs.declared.Endpoint.{Endpoint}
-use Rattle.endpoint.specs.Promises as E
+use Rattle.endpoint.specs.declared.Role as R
+use Rattle.endpoint.specs.Answers as E
+use Rattle.endpoint.specs.Answers.{roleSays}
+use Rattle.endpoint.specs.Promises as P
 use Rattle.octets.specs.declared.Written.{Written}
 use Rattle.octets.specs.declared.Written.the-variants.{Bytes, Refused}
 use Rattle.octets.proofs.Written.{the-type}
 use Rattle.connection_state.specs.declared.ConnectionState.{ConnectionState}
+use Rattle.connection_state.specs.declared.ConnectionState.the-variants.{Start}
 use Rattle.local_open.specs.declared.NewOpen.{NewOpen}
 use Rattle.local_open.specs.Settings.{allowed, checkSays, checked, orSmallest, openSays}
 use Rattle.local_open.proofs.Laws.{or-smallest-allowed}
@@ -89,24 +93,24 @@ reads-does call c d rule a l q e r =
 -- ---- a new connection
 
 pub makes :
-    (role : Role) (S : Settings) (r : NewOpen) (c : Connection) → (checkSays (r .answer) ≡ checked S) × (openSays (r .«open») ≡ orSmallest S)
-    → (roleOf c ≡ role) × (settingsOf c ≡ openSays (r .«open»)) × (viewOf c ≡ fresh) → Makes role S (r .answer) c
-makes role S r c p q =
-    let s : settingsOf c ≡ orSmallest S = q .1 ∙ p .1 in
+    (role : R.Role) (S : Settings) (r : NewOpen) (e : Endpoint) → (checkSays (r .answer) ≡ checked S) × (openSays (r .«open») ≡ orSmallest S) → Begins role (r .«open») e
+    → Makes (roleSays role) S (r .answer) (record { «local_state» = Start; endpoint = e })
+makes role S r e p b =
+    let s : E.settingsOf e ≡ orSmallest S = b .begins-settings ∙ p .1 in
     record {
       checks = p .0;
-      made-role = q .0;
+      made-role = b .begins-role;
       made-settings = s;
-      made-fresh = q .2;
+      made-fresh = b .begins-fresh;
       made-sound = record {
         fine = subst (λ T. allowed T ≡ true) (sym s) (or-smallest-allowed S);
-        reached = subst (Reached (settingsOf c)) (sym (q .2)) (reached-fresh (settingsOf c));
+        reached = subst (Reached (E.settingsOf e)) (sym (b .begins-fresh)) (reached-fresh (E.settingsOf e));
       };
     }
 
 -- ---- a count
 
-pub counts-taken : (c : Connection) (n : ℕ) → E.Counts (c .endpoint) n → Counts c n
+pub counts-taken : (c : Connection) (n : ℕ) → P.Counts (c .endpoint) n → Counts c n
 counts-taken c n e = record { counts = λ z. e .counts (z .reached .shared) }
 
 -- ---- a move, by what was written

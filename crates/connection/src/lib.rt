@@ -29,7 +29,6 @@ ghost use Rattle.frame_encoder.specs.Answers.{settings, errorText};
 ghost use Rattle.connection_state.specs.Answers.{stateSays};
 ghost use Rattle.connection_state.specs.States.{along, receiveOtherHeader};
 ghost use Rattle.channels.specs.Channels.{heldSays, agreedMaxSays};
-ghost use Rattle.local_open.specs.Settings.{openSays};
 ghost use Rattle.connection_model.specs.Connection as M;
 ghost use Rattle.connection_model.specs.Connection.{
   hasError,
@@ -148,13 +147,25 @@ fn bodiless(frame: Frame) -> FrameAnswer
     }
 }
 
-// A connection that starts.
-fn start(role: Role, local: LocalOpen) -> Connection
-    ensures { λ r. ⌜ (roleOf r ≡ roleSays role) × (settingsOf r ≡ openSays local) × (viewOf r ≡ M.fresh) ⌝ }
+// A connection that starts, with its settings checked.
+fn make(
+    role: Role,
+    container_id: &[u8],
+    max_frame_size: u32,
+    channel_max: u16,
+    idle_time_out: IdleTimeOut,
+) -> NewConnection
+    ensures { λ r. ⌜ Makes (roleSays role) (settings (now («container_id» .entry)) «max_frame_size» «channel_max» «idle_time_out») (r .answer) (r .connection) ⌝ }
 {
-    Connection {
-        local_state: ConnectionState::Start,
-        endpoint: Endpoint::new(role, local),
+    let made = LocalOpen::new(container_id, max_frame_size, channel_max, idle_time_out);
+    let answer = made.answer;
+    let open = made.open;
+    NewConnection {
+        answer,
+        connection: Connection {
+            local_state: ConnectionState::Start,
+            endpoint: Endpoint::new(role, open),
+        },
     }
 }
 
@@ -182,13 +193,13 @@ impl Connection {
     ) -> NewConnection
         ensures { λ r. ⌜ Makes M.dialler (settings (now («container_id» .entry)) «max_frame_size» «channel_max» «idle_time_out») (r .answer) (r .connection) ⌝ }
     {
-        let made = LocalOpen::new(container_id, max_frame_size, channel_max, idle_time_out);
-        let answer = made.answer;
-        let open = made.open;
-        NewConnection {
-            answer,
-            connection: start(Role::Dialler, open),
-        }
+        make(
+            Role::Dialler,
+            container_id,
+            max_frame_size,
+            channel_max,
+            idle_time_out,
+        )
     }
 
     // The connection of the one that listens
@@ -200,13 +211,13 @@ impl Connection {
     ) -> NewConnection
         ensures { λ r. ⌜ Makes M.listener (settings (now («container_id» .entry)) «max_frame_size» «channel_max» «idle_time_out») (r .answer) (r .connection) ⌝ }
     {
-        let made = LocalOpen::new(container_id, max_frame_size, channel_max, idle_time_out);
-        let answer = made.answer;
-        let open = made.open;
-        NewConnection {
-            answer,
-            connection: start(Role::Listener, open),
-        }
+        make(
+            Role::Listener,
+            container_id,
+            max_frame_size,
+            channel_max,
+            idle_time_out,
+        )
     }
 
     pub fn state(self) -> ConnectionState
@@ -262,12 +273,12 @@ impl Connection {
         endpoint.taken_count()
     }
 
-    fn moved_to(self, state: ConnectionState) -> Connection
-        ensures { λ r. ⌜ r ≡ movedTo self state ⌝ }
+    fn moved_to(self, reached: ConnectionState) -> Connection
+        ensures { λ r. ⌜ r ≡ movedTo self reached ⌝ }
     {
         let endpoint = self.endpoint;
         Connection {
-            local_state: state,
+            local_state: reached,
             endpoint,
         }
     }
@@ -431,11 +442,12 @@ impl Connection {
             return self.not_sent(20);
         };
         let endpoint = self.endpoint;
+        let limit = endpoint.writing_limit();
         let answer = frame_encoder::write_close_with_error(
             condition,
             described,
             description,
-            endpoint.writing_limit(),
+            limit,
             out,
         );
         Sent {
@@ -584,11 +596,12 @@ impl Connection {
             return self.not_received(20);
         };
         let endpoint = self.endpoint;
+        let opened = FrameAnswer::Opened {
+            consumed: frame.size,
+            idle_time_out,
+        };
         ReceivedFrame {
-            answer: FrameAnswer::Opened {
-                consumed: frame.size,
-                idle_time_out,
-            },
+            answer: opened,
             connection: Connection {
                 local_state: next,
                 endpoint: endpoint.open(max_frame_size, channel_max),
@@ -603,11 +616,12 @@ impl Connection {
         let Moved::To(next) = state.receive_close() else {
             return self.not_received(20);
         };
+        let closed = FrameAnswer::Closed {
+            consumed: frame.size,
+            with_error,
+        };
         ReceivedFrame {
-            answer: FrameAnswer::Closed {
-                consumed: frame.size,
-                with_error,
-            },
+            answer: closed,
             connection: self.moved_to(next),
         }
     }
