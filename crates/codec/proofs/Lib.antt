@@ -2,6 +2,7 @@
 -- Written, then read: Composite (described lists), Open.open-read-back, Close.close-read-back, Empty.empty-read-back, Header.
 -- Read, written, then read: Session.session-read-back.
 -- Within the limit, and accepted by a reader with that limit: Passed, Session.session-passes.
+-- At most twice as long as it was lent: Lengths.session-short.
 pub mod Header
 pub mod Trimmed
 pub mod Composite
@@ -16,3 +17,4 @@ pub mod Shortest
 pub mod Errors
 pub mod Rewritten
 pub mod Session
+pub mod Lengths

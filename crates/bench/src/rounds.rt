@@ -1,0 +1,153 @@
+// The operations, each so many times over on the connection that the one before gave back. Each answers a sum of what the calls answered.
+use crate::setting;
+use channels::Held;
+use connection::AllocateAnswer;
+use connection::Connection;
+use connection::TickAnswer;
+use endpoint::FrameAnswer;
+
+fn plus(a: u64, b: u64) -> u64 {
+    std::num::wrapping_add_u64(a, b)
+}
+
+fn wide(k: u8) -> u16 {
+    k as u16
+}
+
+// The channel after k; the first one after the last.
+fn next(k: u8, last: u8) -> u8 {
+    if k < last {
+        return k + 1;
+    }
+    0
+}
+
+fn handle_of(answer: FrameAnswer) -> u64 {
+    match answer {
+        FrameAnswer::Forward {
+            consumed: _,
+            code: _,
+            handle,
+            from: _,
+            len: _,
+        } => handle as u64,
+        _ => 0,
+    }
+}
+
+// A Transfer is received, on each channel in turn.
+pub(crate) fn transfers(hub: Connection, last: u8, rounds: u64) -> u64 {
+    let mut frame = setting::TRANSFER;
+    let mut connection = hub;
+    let mut sum: u64 = 0;
+    let mut channel: u8 = 0;
+    let mut left = rounds;
+    while 0 < left {
+        setting::set_channel(&mut frame, channel);
+        let received = connection.receive_frame(&frame, 0);
+        connection = received.connection;
+        let answer = received.answer;
+        sum = plus(sum, handle_of(answer));
+        channel = next(channel, last);
+        left -= 1;
+    }
+    plus(sum, connection.taken_count() as u64)
+}
+
+fn held(answer: Held) -> u64 {
+    match answer {
+        Held::Handle(handle) => handle as u64,
+        Held::Nothing => 0,
+    }
+}
+
+fn channel_of(answer: AllocateAnswer) -> u64 {
+    match answer {
+        AllocateAnswer::Channel(k) => k as u64,
+        AllocateAnswer::Refused(_) => 1000,
+    }
+}
+
+// The session on each channel in turn is deallocated, and its channel allocated again.
+pub(crate) fn pairs(hub: Connection, last: u8, rounds: u64) -> u64 {
+    let mut connection = hub;
+    let mut sum: u64 = 0;
+    let mut channel: u8 = 0;
+    let mut left = rounds;
+    while 0 < left {
+        let freed = connection.deallocate_session(wide(channel));
+        let answer = freed.answer;
+        sum = plus(sum, held(answer));
+        let without = freed.connection;
+        let given = without.allocate_session(2000);
+        let answer = given.answer;
+        sum = plus(sum, channel_of(answer));
+        connection = given.connection;
+        channel = next(channel, last);
+        left -= 1;
+    }
+    plus(sum, connection.taken_count() as u64)
+}
+
+fn idle_of(answer: FrameAnswer) -> u64 {
+    match answer {
+        FrameAnswer::Opened {
+            consumed: _,
+            idle_time_out,
+        } => idle_time_out as u64,
+        _ => 0,
+    }
+}
+
+// An Open is received, each time by the same hub, which waits for it.
+pub(crate) fn opens(waiting: Connection, rounds: u64) -> u64 {
+    let mut frame = setting::OPEN;
+    let mut connection = waiting;
+    let mut sum: u64 = 0;
+    let mut b: u8 = 0;
+    let mut left = rounds;
+    while 0 < left {
+        setting::set_last(&mut frame, b);
+        let received = waiting.receive_frame(&frame, 0);
+        connection = received.connection;
+        let answer = received.answer;
+        sum = plus(sum, idle_of(answer));
+        b = next(b, 255);
+        left -= 1;
+    }
+    let given = connection.allocate_session(2000);
+    let answer = given.answer;
+    plus(sum, channel_of(answer))
+}
+
+fn wrote(answer: TickAnswer) -> u64 {
+    match answer {
+        TickAnswer::Wrote(n) => n as u64,
+        TickAnswer::Stop => 0,
+        TickAnswer::Refused(_) => 0,
+    }
+}
+
+// A Transfer is received, on each channel in turn, and then an empty frame is written. Without the Transfer the compiler would see that a tick changes
+// nothing, and leave the rounds out.
+pub(crate) fn ticks(hub: Connection, last: u8, rounds: u64, out: &mut [u8]) -> u64 {
+    let mut frame = setting::TRANSFER;
+    let mut connection = hub;
+    let mut sum: u64 = 0;
+    let mut channel: u8 = 0;
+    let mut left = rounds;
+    while 0 < left {
+        setting::set_channel(&mut frame, channel);
+        let received = connection.receive_frame(&frame, 0);
+        let after = received.connection;
+        let answer = received.answer;
+        sum = plus(sum, handle_of(answer));
+        let ticked = after.tick(out);
+        connection = ticked.connection;
+        let beat = ticked.answer;
+        sum = plus(sum, wrote(beat));
+        channel = next(channel, last);
+        left -= 1;
+    }
+    plus(sum, connection.taken_count() as u64)
+}

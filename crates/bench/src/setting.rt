@@ -1,0 +1,144 @@
+// A hub with sessions, as the operations find it, and the frames that are handed to it.
+use connection::Connection;
+use frame_encoder::IdleTimeOut;
+
+// An Open of container-id pad, max-frame-size 4,096, channel-max 255 and idle-time-out 30,000. The idle-time-out's last byte is at place 32.
+pub(crate) const OPEN: [u8; 33] = [
+    0,
+    0,
+    0,
+    33,
+    2,
+    0,
+    0,
+    0,
+    0x00,
+    0x53,
+    0x10,
+    0xc0,
+    0x14,
+    0x05,
+    0xa1,
+    0x03,
+    0x70,
+    0x61,
+    0x64,
+    0x40,
+    0x70,
+    0x00,
+    0x00,
+    0x10,
+    0x00,
+    0x60,
+    0x00,
+    0xff,
+    0x70,
+    0x00,
+    0x00,
+    0x75,
+    0x30,
+];
+
+const BEGIN: [u8; 20] = [
+    0,
+    0,
+    0,
+    20,
+    2,
+    0,
+    0,
+    0,
+    0x00,
+    0x53,
+    0x11,
+    0xc0,
+    0x07,
+    0x04,
+    0x40,
+    0x43,
+    0x52,
+    0x64,
+    0x52,
+    0x64,
+];
+
+// A Transfer of a message of one value.
+pub(crate) const TRANSFER: [u8; 26] = [
+    0,
+    0,
+    0,
+    26,
+    2,
+    0,
+    0,
+    0,
+    0x00,
+    0x53,
+    0x14,
+    0xc0,
+    0x08,
+    0x05,
+    0x43,
+    0x43,
+    0xa0,
+    0x01,
+    0x00,
+    0x43,
+    0x42,
+    0x00,
+    0x53,
+    0x77,
+    0x52,
+    0x01,
+];
+
+// Sets a frame's channel, which is below 256.
+pub(crate) fn set_channel(frame: &mut [u8], channel: u8) {
+    if 7 < frame.len() {
+        frame[7] = channel;
+    }
+}
+
+// Sets the last byte.
+pub(crate) fn set_last(frame: &mut [u8], b: u8) {
+    if 0 < frame.len() {
+        let last = frame.len() - 1;
+        frame[last] = b;
+    }
+}
+
+// A hub whose headers are exchanged, and which waits for the pad's Open.
+pub(crate) fn exchanged(out: &mut [u8]) -> Connection {
+    let made = Connection::listener(b"hub", 16384, 255, IdleTimeOut::Never);
+    let fresh = made.connection;
+    let sent = fresh.send_header(out);
+    let waiting = sent.connection;
+    let received = waiting.receive_header(&[0x41, 0x4d, 0x51, 0x50, 0, 1, 0, 0]);
+    received.connection
+}
+
+fn opened(out: &mut [u8]) -> Connection {
+    let waiting = exchanged(out);
+    let received = waiting.receive_frame(&OPEN, 0);
+    let answering = received.connection;
+    let sent = answering.send_open(out);
+    sent.connection
+}
+
+fn begun(hub: Connection, channel: u8, handle: u32) -> Connection {
+    let mut frame = BEGIN;
+    set_channel(&mut frame, channel);
+    let received = hub.receive_frame(&frame, handle);
+    received.connection
+}
+
+// A hub with a session on each channel from 0 to the last. The handles are 1000 and on.
+pub(crate) fn with_sessions(last: u8, out: &mut [u8]) -> Connection {
+    let mut hub = opened(out);
+    let mut k: u32 = 0;
+    while k <= (last as u32) {
+        hub = begun(hub, k as u8, 1000 + k);
+        k += 1;
+    }
+    hub
+}

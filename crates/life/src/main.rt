@@ -1,0 +1,48 @@
+// The whole life of an AMQP connection, between two ends in one program: a pad that dials and a hub that listens.
+//
+// Standard input is the script: a call on each line, with whose it is (pad or hub), its name, a number (a max-frame-size, a handle, a channel, or how much output
+// is lent), and the bytes that are lent, in hexadecimal; `<` stands for the whole output of the other end, at whose front is what it
+// wrote last. Lines that start with `--` are titles.
+// Every call has a line of output: whose it is, the call, the state afterwards, what it was lent, and the answer.
+mod calls;
+mod rows;
+mod words;
+
+use connection::Connection;
+use frame_encoder::IdleTimeOut;
+use words::part;
+
+fn title(line: &[u8]) {
+    rows::print(line);
+    rows::print(b"\n");
+}
+
+// The calls of a script, whose lines each end with a newline. Before a script's first calls there is a dialler with no name on both sides.
+fn play(script: &[u8], pad_out: &mut [u8], hub_out: &mut [u8]) {
+    let made = Connection::dialler(b"", 512, 0, IdleTimeOut::Never);
+    let mut pad = made.connection;
+    let mut hub = made.connection;
+    let mut at: usize = 0;
+    while at < script.len() {
+        let end = words::find(script, at, b'\n');
+        if script.len() <= end {
+            return;
+        }
+        let line = part(script, at, end);
+        at = end + 1;
+        match words::at(line, 0) {
+            b'p' => pad = calls::call(pad, line, pad_out, hub_out),
+            b'h' => hub = calls::call(hub, line, hub_out, pad_out),
+            _ => title(line),
+        }
+    }
+}
+
+fn main() {
+    let mut script = io::large_buffer();
+    let n = io::read_full(0, &mut script);
+    let mut pad_out = io::large_buffer();
+    let mut hub_out = io::large_buffer();
+    rows::print(b"side  call                    state after     lent: answer\n");
+    play(part(&script, 0, n), &mut pad_out, &mut hub_out);
+}
