@@ -3,3 +3,4 @@ pub mod Numbers
 pub mod Counting
 pub mod Steps
 pub mod Laws
+pub mod Marking

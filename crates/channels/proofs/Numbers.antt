@@ -11,7 +11,7 @@ use lib.Dec.{T, leb, eqb, leb→le, eqb→eq}
 use borrow.Author.Tests.{le-leb, lt-leb, eq-eqb, ne-eqb}
 use Rattle.channels.specs.Numbers.{Map, nowhere, with, upFrom, freedFirst, one, isTaken, count, EachOnce, Shared}
 
-one-small : (b : Bool) → one b ≤ 1
+pub one-small : (b : Bool) → one b ≤ 1
 one-small true = omega arith
 one-small false = omega arith
 

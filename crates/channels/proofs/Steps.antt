@@ -73,12 +73,12 @@ unfolding chain
 chain-length links k zero = refl
 chain-length links k (suc n) = ap suc (chain-length links (getD links k 0) n)
 
-chain-none : (links : List ℕ) (k n : ℕ) → n ≡ 0 → chain links k n ≡ []
+pub chain-none : (links : List ℕ) (k n : ℕ) → n ≡ 0 → chain links k n ≡ []
 unfolding chain
 chain-none links k n e = rw e
 
 -- a chain without its first number
-chain-pop : (links : List ℕ) (k n : ℕ) → (n ≡ 0 → ⊥) → chain links k n ≡ k ∷ chain links (getD links k 0) (n - 1)
+pub chain-pop : (links : List ℕ) (k n : ℕ) → (n ≡ 0 → ⊥) → chain links k n ≡ k ∷ chain links (getD links k 0) (n - 1)
 unfolding chain
 chain-pop links k zero h = absurd (h refl)
 chain-pop links k (suc n) h = let e : n ≡ suc n - 1 = omega arith in ap (λ x. k ∷ chain links (getD links k 0) x) e
@@ -112,7 +112,7 @@ ascends-more links k l f j h = elim (ℕ-discrete j k) [
 ]
 
 -- the free numbers, in their order
-abbrev free : OutgoingChannels → List ℕ
+abbrev pub free : OutgoingChannels → List ℕ
 free t = chain (t .links) (t .head) (t .left)
 
 -- ---- new, open, handle_at, agreed_max

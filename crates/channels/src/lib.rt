@@ -1,8 +1,10 @@
 // The channel tables of a connection: handles by number, and the outgoing channel numbers, taken and free.
 ghost use mathlib.Core.Path.{_≡_};
 ghost use mathlib.Core.Option.{none, some};
+ghost use Prim.Native.Nat.{_<_};
 ghost use Rattle.channels.specs.Numbers.{nowhere, with};
 ghost use Rattle.channels.specs.Channels.{handlesSay, heldSays, takenSays, agreedSays, agreedMaxSays, Ascends, Fresh, Opens, Allocates, Frees, Counts};
+ghost use Rattle.channels.specs.Channels.{TellsFirst, Marked, Decides};
 
 // Handles by number: which of 256 numbers have one, and which it is.
 pub struct Handles {
@@ -98,6 +100,12 @@ pub enum AgreedMax {
     Is(u8),
 }
 
+// The numbers that are free or taken. Where `once` is false, one of them is both, or free twice, and the marks say nothing.
+struct Marks {
+    marked: [bool; 256],
+    once: bool,
+}
+
 // The links that lead from each number to the next.
 fn ascending() -> [u8; 256]
     ensures { λ r. ⌜ Ascends r ⌝ }
@@ -110,6 +118,34 @@ fn ascending() -> [u8; 256]
         k += 1;
     }
     links
+}
+
+fn index(k: u8) -> usize
+    ensures { λ r. ⌜ (r ≡ k) × (r < 256) ⌝ }
+{
+    k as usize
+}
+
+// Whether the numbers below n are marked, and no others.
+fn are_first(marked: [bool; 256], n: u16) -> bool
+    ensures { λ r. ⌜ TellsFirst marked n r ⌝ }
+{
+    let mut k: u16 = 0;
+    while k < 256 {
+        let i = k as usize;
+        let mark = marked[i];
+        if k < n {
+            if !mark {
+                return false;
+            }
+        } else {
+            if mark {
+                return false;
+            }
+        }
+        k += 1;
+    }
+    true
 }
 
 impl OutgoingChannels {
@@ -236,5 +272,47 @@ impl OutgoingChannels {
             return 0;
         }
         all - left
+    }
+
+    // Marks the free numbers beside the taken ones, and stops at one that is marked already: it marks at most 256.
+    fn marks(self) -> Marks
+        ensures { λ r. ⌜ Marked self r ⌝ }
+    {
+        let sessions = self.sessions;
+        let links = self.links;
+        let mut marked = sessions.held;
+        let mut i = index(self.head);
+        let mut left = self.left;
+        while 0 < left {
+            if marked[i] {
+                return Marks {
+                    marked,
+                    once: false,
+                };
+            }
+            marked[i] = true;
+            i = index(links[i]);
+            left -= 1;
+        }
+        Marks { marked, once: true }
+    }
+
+    // Whether the free numbers and the taken ones are together 0 to the agreed channel-max, each once,
+    // or none before the peer's Open. A table whose bytes come from elsewhere may be any.
+    pub fn is_shared(self) -> bool
+        ensures { λ r. ⌜ Decides self r ⌝ }
+    {
+        if !self.opened {
+            let sessions = self.sessions;
+            let held = sessions.held;
+            return are_first(held, 0);
+        }
+        let marks = self.marks();
+        if !marks.once {
+            return false;
+        }
+        let marked = marks.marked;
+        let n = (self.highest as u16) + 1;
+        are_first(marked, n)
     }
 }

@@ -220,6 +220,21 @@ impl Connection {
         )
     }
 
+    pub fn role(self) -> Role
+        ensures { λ r. ⌜ roleSays r ≡ roleOf self ⌝ }
+    {
+        let endpoint = self.endpoint;
+        endpoint.role()
+    }
+
+    // The channel-max of its own settings
+    pub fn channel_max(self) -> u8
+        ensures { λ r. ⌜ r ≡ settingsOf self .channelMax ⌝ }
+    {
+        let endpoint = self.endpoint;
+        endpoint.channel_max()
+    }
+
     pub fn state(self) -> ConnectionState
         ensures { λ r. ⌜ stateSays r ≡ viewOf self .state ⌝ }
     {

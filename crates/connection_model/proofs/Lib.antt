@@ -5,6 +5,7 @@ pub mod Channels
 pub mod Invariant
 pub mod Routing
 pub mod Forward
+pub mod Closing
 pub mod Valid
 pub mod ProbeFrames
 pub mod Probes

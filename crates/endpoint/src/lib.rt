@@ -27,6 +27,7 @@ ghost use Rattle.channels.specs.Channels.{heldSays, agreedMaxSays};
 ghost use Rattle.local_open.specs.Settings.{openSays};
 ghost use Rattle.endpoint.specs.declared.FrameAnswer.the-variants.{Refused};
 ghost use Rattle.endpoint.specs.Answers.{
+  roleSays,
   roleOf,
   settingsOf,
   agreedOf,
@@ -209,6 +210,12 @@ impl Endpoint {
             outgoing,
             incoming,
         }
+    }
+
+    pub fn role(self) -> Role
+        ensures { λ r. ⌜ roleSays r ≡ roleOf self ⌝ }
+    {
+        self.role
     }
 
     pub fn local_open(self) -> LocalOpen

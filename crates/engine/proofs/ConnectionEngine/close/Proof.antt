@@ -1,0 +1,94 @@
+use borrow.Author.Needs.{needs}
+use Rattle.engine.proofs.Closing.{order-stopped, order-refused, order-sent}
+use Rattle.engine.proofs.ConnectionEngine.close.Statement.{statement}
+use Rattle.engine.proofs.ConnectionEngine.close.Tie as tie
+
+error-fine-requires : tie.Need-error-fine-requires
+error-fine-requires c κs = search needs
+
+frames-to-send-requires : tie.Need-frames-to-send-requires
+frames-to-send-requires c κs = search needs
+
+enum-known-frames : tie.Need-enum-known-frames
+enum-known-frames c = search needs
+
+not-outgoing-requires : tie.Need-not-outgoing-requires
+not-outgoing-requires c κs = search needs
+
+enum-known-frames-2 : tie.Need-enum-known-frames-2
+enum-known-frames-2 c = search needs
+
+send-waiting-requires : tie.Need-send-waiting-requires
+send-waiting-requires c κs = search needs
+
+enum-told : tie.Need-enum-told
+enum-told c = search needs
+
+enum-told-2 : tie.Need-enum-told-2
+enum-told-2 c = search needs
+
+gone-out-requires : tie.Need-gone-out-requires
+gone-out-requires c κs = search needs
+
+same-length : tie.Need-same-length
+same-length c = search needs
+
+returns : tie.Need-returns
+returns c = search (order-stopped, needs)
+
+sub-send-last : tie.Need-sub-send-last
+sub-send-last c = search needs
+
+part-send-last-start : tie.Need-part-send-last-start
+part-send-last-start c = search needs
+
+part-send-last-end : tie.Need-part-send-last-end
+part-send-last-end c = search needs
+
+send-last-requires : tie.Need-send-last-requires
+send-last-requires c κs = search needs
+
+gone-out-requires-2 : tie.Need-gone-out-requires-2
+gone-out-requires-2 c κs = search needs
+
+returns-2 : tie.Need-returns-2
+returns-2 c = search (order-refused, needs)
+
+same-length-2 : tie.Need-same-length-2
+same-length-2 c = search needs
+
+returns-3 : tie.Need-returns-3
+returns-3 c =
+    order-sent _ _ _ _ _
+    (c .before .before .before .before .before .before .before .before .before .before .before .before .before .before .before .before .before .before .before .before .error-fine .ensures) _
+    (c .before .before .before .before .before .before .before .before .before .before .before .before .before .before .before .before .before .before .before .frames-to-send .ensures) _
+    (c .before .before .before .before .before .before .before .before .before .before .before .before .before .before .before .before .before .frames2 .given .1) _ _
+    (c .before .before .before .before .before .before .before .before .before .before .before .before .before .send-waiting .ensures) _ _
+    (c .before .before .before .before .before .out3 .given .0) _ _ _
+    (c .before .before .before .before .before .before .before .before .enum-told .given .1)
+    (c .before .before .before .before .before .before .send-last .ensures)
+    (c .before .before .gone-out2 .ensures)
+
+pub close-spec : {M : Type 1} → statement M
+close-spec =
+    tie.close
+    (tie.spec
+    error-fine-requires
+    frames-to-send-requires
+    enum-known-frames
+    not-outgoing-requires
+    enum-known-frames-2
+    send-waiting-requires
+    enum-told
+    enum-told-2
+    gone-out-requires
+    same-length
+    returns
+    sub-send-last
+    part-send-last-start
+    part-send-last-end
+    send-last-requires
+    gone-out-requires-2
+    returns-2
+    same-length-2
+    returns-3)

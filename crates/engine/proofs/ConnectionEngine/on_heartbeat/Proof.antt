@@ -1,0 +1,65 @@
+use borrow.Author.Needs.{needs}
+use Rattle.engine.proofs.Well.{tick-9, tick-20, tick-refused, tick-done}
+use Rattle.engine.proofs.ConnectionEngine.on_heartbeat.Statement.{statement}
+use Rattle.engine.proofs.ConnectionEngine.on_heartbeat.Tie as tie
+
+no-heartbeat-requires : tie.Need-no-heartbeat-requires
+no-heartbeat-requires c κs = search needs
+
+returns : tie.Need-returns
+returns c = search (tick-9, needs)
+
+is-ending-requires : tie.Need-is-ending-requires
+is-ending-requires c κs = search needs
+
+no-heartbeat-requires-2 : tie.Need-no-heartbeat-requires-2
+no-heartbeat-requires-2 c κs = search needs
+
+returns-2 : tie.Need-returns-2
+returns-2 c = search (tick-20, needs)
+
+tick-requires : tie.Need-tick-requires
+tick-requires c κs = search needs
+
+enum-known-answer : tie.Need-enum-known-answer
+enum-known-answer c = search needs
+
+no-heartbeat-requires-3 : tie.Need-no-heartbeat-requires-3
+no-heartbeat-requires-3 c κs = search needs
+
+same-length : tie.Need-same-length
+same-length c = search needs
+
+returns-3 : tie.Need-returns-3
+returns-3 c = search (tick-refused, needs)
+
+settle-requires : tie.Need-settle-requires
+settle-requires c κs = search needs
+
+running-requires : tie.Need-running-requires
+running-requires c κs = search needs
+
+same-length-2 : tie.Need-same-length-2
+same-length-2 c = search needs
+
+returns-4 : tie.Need-returns-4
+returns-4 c = search (tick-done, needs)
+
+pub on-heartbeat-spec : {M : Type 1} → statement M
+on-heartbeat-spec =
+    tie.close
+    (tie.spec
+    no-heartbeat-requires
+    returns
+    is-ending-requires
+    no-heartbeat-requires-2
+    returns-2
+    tick-requires
+    enum-known-answer
+    no-heartbeat-requires-3
+    same-length
+    returns-3
+    settle-requires
+    running-requires
+    same-length-2
+    returns-4)

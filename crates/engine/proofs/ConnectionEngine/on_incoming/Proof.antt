@@ -1,0 +1,114 @@
+use borrow.Author.Needs.{needs}
+use Rattle.engine.proofs.Taking.{incoming-9, incoming-20, incoming-1, incoming-waiting, incoming-done}
+use Rattle.engine.proofs.ConnectionEngine.on_incoming.Statement.{statement}
+use Rattle.engine.proofs.ConnectionEngine.on_incoming.Tie as tie
+
+lacks-room-requires : tie.Need-lacks-room-requires
+lacks-room-requires c κs = search needs
+
+not-taken-requires : tie.Need-not-taken-requires
+not-taken-requires c κs = search needs
+
+returns : tie.Need-returns
+returns c = search (incoming-9, needs)
+
+is-stopped-requires : tie.Need-is-stopped-requires
+is-stopped-requires c κs = search needs
+
+not-taken-requires-2 : tie.Need-not-taken-requires-2
+not-taken-requires-2 c κs = search needs
+
+returns-2 : tie.Need-returns-2
+returns-2 c = search (incoming-20, needs)
+
+receive-frame-requires : tie.Need-receive-frame-requires
+receive-frame-requires c κs = search needs
+
+is-missing-requires : tie.Need-is-missing-requires
+is-missing-requires c κs = search needs
+
+not-taken-requires-3 : tie.Need-not-taken-requires-3
+not-taken-requires-3 c κs = search needs
+
+returns-3 : tie.Need-returns-3
+returns-3 c = search (incoming-1, needs)
+
+channel-max-requires : tie.Need-channel-max-requires
+channel-max-requires c κs = search needs
+
+cast-highest : tie.Need-cast-highest
+cast-highest c = search needs
+
+session-frames-requires : tie.Need-session-frames-requires
+session-frames-requires c κs = search needs
+
+enum-known-frames : tie.Need-enum-known-frames
+enum-known-frames c = search needs
+
+enum-told : tie.Need-enum-told
+enum-told c = search needs
+
+refusal-of-requires : tie.Need-refusal-of-requires
+refusal-of-requires c κs = search needs
+
+not-taken-requires-4 : tie.Need-not-taken-requires-4
+not-taken-requires-4 c κs = search needs
+
+returns-4 : tie.Need-returns-4
+returns-4 c = search (incoming-waiting, needs)
+
+lands-requires : tie.Need-lands-requires
+lands-requires c κs = search needs
+
+frame-size-requires : tie.Need-frame-size-requires
+frame-size-requires c κs = search needs
+
+consumed-by-requires : tie.Need-consumed-by-requires
+consumed-by-requires c κs = search needs
+
+taken-requires : tie.Need-taken-requires
+taken-requires c κs = search needs
+
+same-length : tie.Need-same-length
+same-length c = search needs
+
+returns-5 : tie.Need-returns-5
+returns-5 c =
+    let l = c .before .before .before .before .before in
+    let f = l .before .before .before .before .before in
+    let m = f .before .before .before in
+    let r = m .before .before in
+    let i = r .before .before .before in
+    let k = i .before .before in
+    incoming-done _ _ _ _ _ _ (k .lacks-room .ensures) (i .before .if1 .left) _ (i .is-stopped .ensures) (r .before .before .if2 .left) _ _ (r .receive-frame .ensures) _ (m .is-missing .ensures)
+    (f .before .before .if3 .left) _ _ (f .before .channel-max .ensures) (f .session-frames .ensures) _ _ _ _ _ _ (l .before .before .before .frames .given .1) (l .lands .ensures)
+    (c .before .before .frame-size .ensures) (c .before .consumed-by .ensures) (c .taken .ensures)
+
+pub on-incoming-spec : {M : Type 1} → statement M
+on-incoming-spec =
+    tie.close
+    (tie.spec
+    lacks-room-requires
+    not-taken-requires
+    returns
+    is-stopped-requires
+    not-taken-requires-2
+    returns-2
+    receive-frame-requires
+    is-missing-requires
+    not-taken-requires-3
+    returns-3
+    channel-max-requires
+    cast-highest
+    session-frames-requires
+    enum-known-frames
+    enum-told
+    refusal-of-requires
+    not-taken-requires-4
+    returns-4
+    lands-requires
+    frame-size-requires
+    consumed-by-requires
+    taken-requires
+    same-length
+    returns-5)

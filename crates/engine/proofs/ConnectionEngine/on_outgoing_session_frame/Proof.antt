@@ -1,0 +1,103 @@
+use borrow.Author.Needs.{needs}
+use Rattle.engine.proofs.Outgoing.{outgoing-9, outgoing-20, outgoing-input, outgoing-done, outgoing-failing}
+use Rattle.engine.proofs.ConnectionEngine.on_outgoing_session_frame.Statement.{statement}
+use Rattle.engine.proofs.ConnectionEngine.on_outgoing_session_frame.Tie as tie
+
+lacks-room-requires : tie.Need-lacks-room-requires
+lacks-room-requires c κs = search needs
+
+not-outgoing-requires : tie.Need-not-outgoing-requires
+not-outgoing-requires c κs = search needs
+
+returns : tie.Need-returns
+returns c = search (outgoing-9, needs)
+
+is-ending-requires : tie.Need-is-ending-requires
+is-ending-requires c κs = search needs
+
+not-outgoing-requires-2 : tie.Need-not-outgoing-requires-2
+not-outgoing-requires-2 c κs = search needs
+
+returns-2 : tie.Need-returns-2
+returns-2 c = search (outgoing-20, needs)
+
+send-session-frame-requires : tie.Need-send-session-frame-requires
+send-session-frame-requires c κs = search needs
+
+enum-known-answer : tie.Need-enum-known-answer
+enum-known-answer c = search needs
+
+settle-requires : tie.Need-settle-requires
+settle-requires c κs = search needs
+
+running-requires : tie.Need-running-requires
+running-requires c κs = search needs
+
+enum-known-answer-2 : tie.Need-enum-known-answer-2
+enum-known-answer-2 c = search needs
+
+not-outgoing-requires-3 : tie.Need-not-outgoing-requires-3
+not-outgoing-requires-3 c κs = search needs
+
+same-length : tie.Need-same-length
+same-length c = search needs
+
+returns-3 : tie.Need-returns-3
+returns-3 c = search (outgoing-input, needs)
+
+outgoing-error-requires : tie.Need-outgoing-error-requires
+outgoing-error-requires c κs = search needs
+
+on-error-requires : tie.Need-on-error-requires
+on-error-requires c κs = search needs
+
+landed-out-requires : tie.Need-landed-out-requires
+landed-out-requires c κs = search needs
+
+same-length-2 : tie.Need-same-length-2
+same-length-2 c = search needs
+
+returns-4 : tie.Need-returns-4
+returns-4 c =
+    let s = c .before .before .before .before .before .before .before .before in
+    let i = s .before .before .before .before in
+    outgoing-done _ _ _ _ (i .before .before .lacks-room .ensures) _ (i .is-ending .ensures) (i .before .if1 .left) (s .before .before .before .if2 .left) _ _ _ _ _ _
+    (s .send-session-frame .ensures) (c .before .before .before .answer .given .1) (c .before .settle .ensures) (c .running .ensures)
+
+same-length-3 : tie.Need-same-length-3
+same-length-3 c = search needs
+
+returns-5 : tie.Need-returns-5
+returns-5 c =
+    let o = c .before .before .before in
+    let s = o .before .before .before .before .before .before .before .before .before .before in
+    let i = s .before .before .before .before in
+    outgoing-failing _ _ _ _ (i .before .before .lacks-room .ensures) _ (i .is-ending .ensures) (i .before .if1 .left) (s .before .before .before .if2 .left) _ _ _ _ _ _
+    (o .before .before .outgoing-error .result) _
+    (s .send-session-frame .ensures) (o .before .before .before .before .before .answer2 .given .1) (search needs) (o .before .before .outgoing-error .ensures) (o .on-error .ensures) (c .landed-out .ensures)
+
+pub on-outgoing-session-frame-spec : {M : Type 1} → statement M
+on-outgoing-session-frame-spec =
+    tie.close
+    (tie.spec
+    lacks-room-requires
+    not-outgoing-requires
+    returns
+    is-ending-requires
+    not-outgoing-requires-2
+    returns-2
+    send-session-frame-requires
+    enum-known-answer
+    settle-requires
+    running-requires
+    enum-known-answer-2
+    not-outgoing-requires-3
+    same-length
+    returns-3
+    outgoing-error-requires
+    on-error-requires
+    landed-out-requires
+    same-length-2
+    returns-4
+    same-length-3
+    returns-5)

@@ -1,0 +1,4 @@
+pub mod Answers
+pub mod Promises
+pub mod Sending
+pub mod Reading
