@@ -35,7 +35,7 @@ def public_functions(crate):
                 of = module + head[1] + "::"
             elif line == "}":
                 of = module
-            elif function := re.match(r"\s*pub fn (\w+)", line):
+            elif function := re.match(r"\s*pub (?:extern \"C\" )?fn (\w+)", line):
                 found.add(of + function[1])
     return found
 

@@ -4,3 +4,8 @@ pub mod Counting
 pub mod Steps
 pub mod Laws
 pub mod Marking
+pub mod Parts
+pub mod Writing
+pub mod Reading
+pub mod Lists
+pub mod Tables

@@ -23,6 +23,7 @@ use Rattle.channels.specs.declared.OutgoingChannels.{OutgoingChannels}
 use Rattle.channels.specs.declared.Allocated.the-variants.{Channel, NotOpened, Full}
 use Rattle.channels.specs.declared.AgreedMax.the-variants.{Absent, Is}
 use Rattle.channels.specs.Channels.{handlesSay, heldSays, agreedMaxSays, chain, agreedSays, handOutSays, takenSays, nextOf, SharedBy, Ascends, Fresh, Opens, Allocates, Frees, Counts}
+use Rattle.channels.specs.Bytes.{TellsBelow}
 use Rattle.channels.proofs.Counting.{none-below, free-and-taken, taken-not-free, none-taken}
 
 pub apart : {A : Type 0} → _≡_ {A = ℕ} 0 1 → A
@@ -30,7 +31,7 @@ apart z = absurd (omega arith)
 
 -- ---- handles by number
 
-getD-all : {A : Type 0} (n k : ℕ) (d : A) → getD (replicate n d) k d ≡ d
+pub getD-all : {A : Type 0} (n k : ℕ) (d : A) → getD (replicate n d) k d ≡ d
 getD-all zero k d = refl
 getD-all (suc n) zero d = refl
 getD-all (suc n) (suc k) d = getD-all n k d
@@ -38,6 +39,45 @@ getD-all (suc n) (suc k) d = getD-all n k d
 pub no-handles : handlesSay (record { held = replicate 256 false; handles = replicate 256 0 }) ≡ nowhere
 unfolding handlesSay
 no-handles = fun-ext (λ k. rw (getD-all 256 k false))
+
+-- ---- Handles::are_below
+
+-- none of the numbers from n to k is held
+abbrev pub NoneHeld : List Bool → ℕ → ℕ → Type 0
+NoneHeld marks n k = (n ≤ k) × ((j : ℕ) → n ≤ j → j < k → getD marks j false ≡ false)
+
+pub none-held : (marks : List Bool) (n : ℕ) → NoneHeld marks n n
+none-held marks n = (omega arith, λ j h l. absurd (omega arith))
+
+pub none-more : (marks : List Bool) (n k : ℕ) → NoneHeld marks n k → getD marks k false ≡ false → NoneHeld marks n (k + 1)
+none-more marks n k inv e = (
+  omega (arith, inv .0),
+  λ j h l. elim (ℕ-discrete j k) [
+    | yes q ↦ rw q e
+    | no q ↦ inv .1 j h (omega arith)
+  ],
+)
+
+module _ (t : Handles) (n k : ℕ) where
+  pub one-above : n ≤ k → getD (t .held) k false ≡ true → TellsBelow t n false
+  unfolding handlesSay
+  one-above h e = record { yes = λ q. apart (cc); no = λ q all. omega (arith, all k (getD (t .handles) k 0) (rw e)) }
+
+  pub all-below : length (t .held) ≡ 256 → 256 ≤ k → NoneHeld (t .held) n k → TellsBelow t n true
+  unfolding handlesSay
+  all-below l h inv = record { yes = λ q. by; no = λ q. apart (cc) }
+    where
+      not-held : (j x : ℕ) → handlesSay t j ≡ some x → n ≤ j → ⊥
+      not-held j x e low = elim (decLe j 255) [
+        | yes m ↦ let z : handlesSay t j ≡ none = rw (inv .1 j low (omega arith)) in apart (cc)
+        | no m ↦ let z : handlesSay t j ≡ none = rw (List·getD-eq-default (t .held) false {n = j} (omega arith)) in apart (cc)
+      ]
+
+      by : (j x : ℕ) → handlesSay t j ≡ some x → j < n
+      by j x e = elim (decLe n j) [
+        | yes m ↦ absurd (not-held j x e m)
+        | no m ↦ omega arith
+      ]
 
 module _ (t : Handles) (k : ℕ) where
   pub got-past : length (t .held) ≡ 256 → 255 < k → heldSays Nothing ≡ handlesSay t k
@@ -68,7 +108,7 @@ module _ (t : Handles) (k : ℕ) where
 
 -- ---- chains
 
-chain-length : (links : List ℕ) (k n : ℕ) → length (chain links k n) ≡ n
+pub chain-length : (links : List ℕ) (k n : ℕ) → length (chain links k n) ≡ n
 unfolding chain
 chain-length links k zero = refl
 chain-length links k (suc n) = ap suc (chain-length links (getD links k 0) n)
@@ -93,7 +133,7 @@ chain-set links k (suc n) j v h = elim (ℕ-discrete k j) [
 ]
 
 -- a number before a chain that does not have it
-chain-push : (links : List ℕ) (k n j : ℕ) → j < length links → count j (chain links k n) ≡ 0 → chain (set links j k) j (n + 1) ≡ j ∷ chain links k n
+pub chain-push : (links : List ℕ) (k n j : ℕ) → j < length links → count j (chain links k n) ≡ 0 → chain (set links j k) j (n + 1) ≡ j ∷ chain links k n
 unfolding chain
 chain-push links k n j l h = rw (add-one n, getD-set-same links j k 0 l) (ap (λ l. j ∷ l) (chain-set links k n j k h))
 

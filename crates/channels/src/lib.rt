@@ -1,15 +1,33 @@
 // The channel tables of a connection: handles by number, and the outgoing channel numbers, taken and free.
 ghost use mathlib.Core.Path.{_≡_};
+ghost use mathlib.Core.Bool.{false};
 ghost use mathlib.Core.Option.{none, some};
 ghost use Prim.Native.Nat.{_<_};
 ghost use Rattle.channels.specs.Numbers.{nowhere, with};
 ghost use Rattle.channels.specs.Channels.{handlesSay, heldSays, takenSays, agreedSays, agreedMaxSays, Ascends, Fresh, Opens, Allocates, Frees, Counts};
 ghost use Rattle.channels.specs.Channels.{TellsFirst, Marked, Decides};
+ghost use Rattle.octets.specs.Octets.{put};
+ghost use Rattle.layout.specs.Layout.{filled};
+ghost use Rattle.channels.specs.Bytes.{handlesBytes, freeNumbers};
+ghost use Rattle.channels.specs.Bytes.{ReadsHandles, TellsBelow, Unread, CountsFree, WritesChannels};
+ghost use Rattle.channels.specs.Bytes.{Links, ReadsFree, Rebuilds, UnreadChannels, ReadsChannels};
+use layout::are_zero;
+use layout::put_may;
+use layout::read_may;
+use octets::copy;
+use octets::number;
+use octets::put_number;
 
 // Handles by number: which of 256 numbers have one, and which it is.
 pub struct Handles {
     held: [bool; 256],
     handles: [u32; 256],
+}
+
+// Handles that were read from bytes. Where `fine` is false, the bytes are not those of handles, and no number has one.
+pub struct HandlesRead {
+    pub fine: bool,
+    pub handles: Handles,
 }
 
 // What a number has.
@@ -62,6 +80,84 @@ impl Handles {
         self.held[i] = false;
         self
     }
+
+    // Whether every number that has a handle is below n.
+    pub fn are_below(self, n: u16) -> bool
+        ensures { λ r. ⌜ TellsBelow self n r ⌝ }
+    {
+        let held = self.held;
+        let mut k = n as usize;
+        while k < 256 {
+            if held[k] {
+                return false;
+            }
+            k += 1;
+        }
+        true
+    }
+
+    // Lays the handles as 1,280 bytes into the buffer at a place, if they fit there.
+    pub fn write_at(self, out: &mut [u8], at: usize)
+        ensures { λ _. ⌜ now (out .exit) ≡ put (now (out .entry)) at (handlesBytes (handlesSay self)) ⌝ }
+    {
+        if out.len() < at {
+            return;
+        }
+        if out.len() - at < 1280 {
+            return;
+        }
+        let held = self.held;
+        let handles = self.handles;
+        let mut k: usize = 0;
+        while k < 256 {
+            put_may(out, at + 5 * k, 4, held[k], wide(handles[k]));
+            k += 1;
+        }
+    }
+
+    // The handles that 1,280 bytes stand for.
+    pub fn from_bytes(s: &[u8]) -> HandlesRead
+        ensures { λ r. ⌜ ReadsHandles (now (s .entry)) r ⌝ }
+    {
+        let mut held = [false; 256];
+        let mut handles = [0u32; 256];
+        if s.len() != 1280 {
+            return unread();
+        }
+        let mut k: usize = 0;
+        while k < 256 {
+            let at = 5 * k;
+            let end = at + 5;
+            let place = read_may(&s[at..end]);
+            if !place.fine {
+                return unread();
+            }
+            held[k] = place.there;
+            handles[k] = place.number as u32;
+            k += 1;
+        }
+        HandlesRead {
+            fine: true,
+            handles: Handles { held, handles },
+        }
+    }
+}
+
+// What bytes give that are not those of handles.
+fn unread() -> HandlesRead
+    ensures { λ r. ⌜ Unread r ⌝ }
+{
+    let handles = Handles::new();
+    HandlesRead {
+        fine: false,
+        handles,
+    }
+}
+
+fn wide(x: u32) -> u64
+    ensures { λ r. ⌜ r ≡ x ⌝ }
+{
+    x as u64
 }
 
 // The outgoing channel numbers: those taken, with their handles, and those free, linked in the order in which they will be handed out.
@@ -106,6 +202,27 @@ struct Marks {
     once: bool,
 }
 
+// A table that was read from bytes. Where `fine` is false, they are not those of a table that keeps the rule, and the table is a new one.
+pub struct ChannelsRead {
+    pub fine: bool,
+    pub channels: OutgoingChannels,
+}
+
+// Links along a list from its first number on. Where `fine` is false, the list has a number twice.
+struct Linked {
+    fine: bool,
+    links: [u8; 256],
+    head: u8,
+}
+
+// Free numbers that were read from bytes: `left` of them from `head` on, by the links. Where `fine` is false, the bytes are not those of such a list.
+struct Free {
+    fine: bool,
+    links: [u8; 256],
+    head: u8,
+    left: u16,
+}
+
 // The links that lead from each number to the next.
 fn ascending() -> [u8; 256]
     ensures { λ r. ⌜ Ascends r ⌝ }
@@ -124,6 +241,113 @@ fn index(k: u8) -> usize
     ensures { λ r. ⌜ (r ≡ k) × (r < 256) ⌝ }
 {
     k as usize
+}
+
+// Links the numbers of a list, from the last to the first, and stops at one that is linked already.
+fn link(s: &[u8]) -> Linked
+    ensures { λ r. ⌜ Links (now (s .entry)) r ⌝ }
+{
+    let mut links = [0u8; 256];
+    let mut seen = [false; 256];
+    let mut head: u8 = 0;
+    let mut left = s.len();
+    while 0 < left {
+        let k = s[left - 1];
+        let i = index(k);
+        if seen[i] {
+            return Linked {
+                fine: false,
+                links,
+                head,
+            };
+        }
+        seen[i] = true;
+        links[i] = head;
+        head = k;
+        left -= 1;
+    }
+    Linked {
+        fine: true,
+        links,
+        head,
+    }
+}
+
+// What bytes give that are not those of a list of free numbers.
+fn no_list() -> Free
+    ensures { λ r. ⌜ (r .fine ≡ false) × (r .left ≡ 0) ⌝ }
+{
+    let links = [0u8; 256];
+    Free {
+        fine: false,
+        links,
+        head: 0,
+        left: 0,
+    }
+}
+
+// Reads a list of free numbers from 258 bytes: how many there are, which they are, and zeros.
+fn read_free(s: &[u8]) -> Free
+    ensures { λ r. ⌜ ReadsFree (now (s .entry)) r ⌝ }
+{
+    if s.len() != 258 {
+        return no_list();
+    }
+    let n = number(&s[..2]);
+    if 256 < n {
+        return no_list();
+    }
+    let end = 2 + (n as usize);
+    if !are_zero(&s[end..258]) {
+        return no_list();
+    }
+    let linked = link(&s[2..end]);
+    let links = linked.links;
+    Free {
+        fine: linked.fine,
+        links,
+        head: linked.head,
+        left: n as u16,
+    }
+}
+
+// What bytes give that are not those of a table.
+fn unread_channels() -> ChannelsRead
+    ensures { λ r. ⌜ UnreadChannels r ⌝ }
+{
+    let channels = OutgoingChannels::new();
+    ChannelsRead {
+        fine: false,
+        channels,
+    }
+}
+
+// The table of parts that were read, if it keeps the rule.
+fn rebuilt(opened: bool, highest: u8, free: Free, sessions: Handles) -> ChannelsRead
+    ensures { λ r. ⌜ Rebuilds opened highest free sessions r ⌝ }
+{
+    let left = free.left;
+    if !opened {
+        if 0 < left {
+            return unread_channels();
+        }
+    }
+    let links = free.links;
+    let channels = OutgoingChannels {
+        sessions,
+        links,
+        head: free.head,
+        left,
+        highest,
+        opened,
+    };
+    if channels.is_shared() {
+        return ChannelsRead {
+            fine: true,
+            channels,
+        };
+    }
+    unread_channels()
 }
 
 // Whether the numbers below n are marked, and no others.
@@ -314,5 +538,79 @@ impl OutgoingChannels {
         let marked = marks.marked;
         let n = (self.highest as u16) + 1;
         are_first(marked, n)
+    }
+
+    // How many numbers are free, before the peer's Open none, and at most 256.
+    fn free_count(self) -> usize
+        ensures { λ r. ⌜ CountsFree self r ⌝ }
+    {
+        if !self.opened {
+            return 0;
+        }
+        let left = self.left;
+        if left <= 256 {
+            return left as usize;
+        }
+        256
+    }
+
+    // The free numbers, in the order in which they are handed out, and zeros after them.
+    fn free_numbers(self) -> [u8; 256]
+        ensures { λ r. ⌜ r ≡ filled 256 (freeNumbers self) ⌝ }
+    {
+        let n = self.free_count();
+        let links = self.links;
+        let mut list = [0u8; 256];
+        let mut k = self.head;
+        let mut i: usize = 0;
+        while i < n {
+            list[i] = k;
+            let j = index(k);
+            k = links[j];
+            i += 1;
+        }
+        list
+    }
+
+    // Lays the table as 1,540 bytes into the buffer at a place, if they fit there.
+    pub fn write_at(self, out: &mut [u8], at: usize)
+        ensures { λ _. ⌜ WritesChannels self at (now (out .entry)) (now (out .exit)) ⌝ }
+    {
+        if out.len() < at {
+            return;
+        }
+        if out.len() - at < 1540 {
+            return;
+        }
+        let sessions = self.sessions;
+        let n = self.free_count();
+        let list = self.free_numbers();
+        put_may(out, at, 1, self.opened, self.highest as u64);
+        put_number(out, at + 2, 2, n as u64);
+        copy(out, at + 4, &list);
+        sessions.write_at(out, at + 260);
+    }
+
+    // The table that 1,540 bytes stand for.
+    pub fn from_bytes(s: &[u8]) -> ChannelsRead
+        ensures { λ r. ⌜ ReadsChannels (now (s .entry)) r ⌝ }
+    {
+        if s.len() != 1540 {
+            return unread_channels();
+        }
+        let agreed = read_may(&s[..2]);
+        if !agreed.fine {
+            return unread_channels();
+        }
+        let free = read_free(&s[2..260]);
+        if !free.fine {
+            return unread_channels();
+        }
+        let sessions = Handles::from_bytes(&s[260..1540]);
+        if !sessions.fine {
+            return unread_channels();
+        }
+        let handles = sessions.handles;
+        rebuilt(agreed.there, agreed.number as u8, free, handles)
     }
 }

@@ -4,3 +4,4 @@ pub mod Writing
 pub mod Reading
 pub mod Sessions
 pub mod Port
+pub mod Bytes

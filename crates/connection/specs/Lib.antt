@@ -1,3 +1,4 @@
 pub mod View
+pub mod Bytes
 pub mod Promises
 pub mod Port

@@ -1,11 +1,12 @@
 -- What the calls of a connection promise.
 -- Assumes nothing: these are definitions.
 use mathlib.Core.Path.{_≡_}
-use mathlib.Core.Bool.{cond}
+use mathlib.Core.Bool.{true, false, cond}
 use mathlib.Core.List.{List, [], _∷_}
 use Prim.Native.Nat.{ℕ}
 use lib.Dec.{eqb}
 use Rattle.octets.specs.Verdict.{Verdict, refuse, accept, require}
+use Rattle.octets.specs.Octets.{put}
 use Rattle.octets.specs.Output.{roomFor, laid}
 use Rattle.octets.specs.declared.Written.{Written}
 use Rattle.octets.specs.declared.Written.the-variants.{Bytes, Refused}
@@ -19,8 +20,11 @@ use Rattle.channels.specs.Numbers.{takenBelow}
 use Rattle.connection_model.specs.Connection.{Role, Answer, Outcome, Call, Seen, seen, next, lent, fresh, answered, written, after, ticked, says, stay, nothingToDo, hasError, openRead, closeRead, sessionRead}
 use Rattle.connection_model.specs.Connection as M
 use Rattle.local_open.specs.declared.Checked.{Checked}
-use Rattle.local_open.specs.Settings.{checkSays, checked, orSmallest}
+use Rattle.local_open.specs.Settings.{checkSays, checked, orSmallest, smallest}
+use Rattle.endpoint.specs.Bytes.{Storable}
 use Rattle.connection.specs.declared.Connection.{Connection}
+use Rattle.connection.specs.declared.ConnectionRead.{ConnectionRead}
+use Rattle.connection.specs.Bytes.{connectionBytes}
 use Rattle.connection.specs.View.{roleOf, settingsOf, viewOf, Sound}
 
 -- ---- calls
@@ -49,7 +53,31 @@ pub record Makes (role : Role) (S : Settings) (a : Checked) (c : Connection) : T
 pub record Counts (c : Connection) (r : ℕ) : Type 0 where
   pub counts : Sound c → r ≡ takenBelow 256 (viewOf c .taken)
 
+-- ---- bytes
+
+-- a sound connection that has these bytes, or that there is none, and then a new dialler with the smallest settings
+pub record ReadsConnection (s : List ℕ) (r : ConnectionRead) : Type 0 where
+  pub yes : r .fine ≡ true → s ≡ connectionBytes (roleOf (r .connection)) (settingsOf (r .connection)) (viewOf (r .connection))
+  pub storable : r .fine ≡ true → Storable (settingsOf (r .connection)) (viewOf (r .connection))
+  pub read-sound : Sound (r .connection)
+  pub no : r .fine ≡ false → (role : Role) (S : Settings) (c : M.Connection) → Storable S c → s ≡ connectionBytes role S c → ⊥
+  pub new-role : r .fine ≡ false → roleOf (r .connection) ≡ M.dialler
+  pub new-settings : r .fine ≡ false → settingsOf (r .connection) ≡ smallest
+  pub new-fresh : r .fine ≡ false → viewOf (r .connection) ≡ fresh
+
+-- the bytes of a sound connection are laid at a place
+pub record WritesConnection (self : Connection) (at : ℕ) (before after : List ℕ) : Type 0 where
+  pub lays : Sound self → after ≡ put before at (connectionBytes (roleOf self) (settingsOf self) (viewOf self))
+
 -- ---- between the private functions
+
+-- what bytes give that are not those of a sound connection: a new dialler with the smallest settings
+pub record Unread (r : ConnectionRead) : Type 0 where
+  pub unread-not : r .fine ≡ false
+  pub unread-role : roleOf (r .connection) ≡ M.dialler
+  pub unread-settings : settingsOf (r .connection) ≡ smallest
+  pub unread-fresh : viewOf (r .connection) ≡ fresh
+  pub unread-sound : Sound (r .connection)
 
 -- the same connection in another state
 abbrev pub movedTo : Connection → ConnectionState → Connection

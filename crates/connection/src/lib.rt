@@ -4,6 +4,7 @@ use channels::Allocated;
 use channels::Held;
 use connection_state::ConnectionState;
 use connection_state::Moved;
+use connection_state::NumberedState;
 use endpoint::Endpoint;
 use endpoint::FrameAnswer;
 use endpoint::Incoming;
@@ -13,6 +14,7 @@ use frame_encoder::IdleTimeOut;
 use local_open::Checked;
 use local_open::LocalOpen;
 use octets::Written;
+use octets::put_number;
 use performatives::Condition;
 use performatives::Performative;
 use protocol_header::HeaderRead;
@@ -51,7 +53,7 @@ ghost use Rattle.endpoint.specs.Answers.{roleSays, frameOf, answerSays, sentSay
 ghost use Rattle.endpoint.specs.Answers.{allocateSays as handedOut};
 ghost use Rattle.connection.specs.declared.HeaderAnswer.the-variants.{Refused as NoHeader};
 ghost use Rattle.connection.specs.View.{roleOf, settingsOf, viewOf, headerSays, allocateSays, tickSays};
-ghost use Rattle.connection.specs.Promises.{Does, Makes, Counts, Reads, Beats, movedTo, movedIf, bareSays, saidRead};
+ghost use Rattle.connection.specs.Promises.{Does, Makes, Counts, ReadsConnection, WritesConnection, Unread, Reads, Beats, movedTo, movedIf, bareSays, saidRead};
 
 pub struct Connection {
     local_state: ConnectionState,
@@ -61,6 +63,12 @@ pub struct Connection {
 // A new connection. Where its settings were refused, it has the smallest ones in their place.
 pub struct NewConnection {
     pub answer: Checked,
+    pub connection: Connection,
+}
+
+// A connection that was read from bytes. Where `fine` is false, the bytes are not those of a sound connection, and a new dialler's stands in its place.
+pub struct ConnectionRead {
+    pub fine: bool,
     pub connection: Connection,
 }
 
@@ -218,6 +226,46 @@ impl Connection {
             channel_max,
             idle_time_out,
         )
+    }
+
+    // The connection that 3,096 bytes stand for.
+    pub fn from_bytes(s: &[u8]) -> ConnectionRead
+        ensures { λ r. ⌜ ReadsConnection (now (s .entry)) r ⌝ }
+    {
+        if s.len() != 3096 {
+            return unread();
+        }
+        let NumberedState::Is(local_state) = ConnectionState::with_number(s[0]) else {
+            return unread();
+        };
+        let read = Endpoint::from_bytes(&s[1..], local_state);
+        if !read.fine {
+            return unread();
+        }
+        let endpoint = read.endpoint;
+        ConnectionRead {
+            fine: true,
+            connection: Connection {
+                local_state,
+                endpoint,
+            },
+        }
+    }
+
+    // Lays the connection as 3,096 bytes into the buffer at a place, if they fit there.
+    pub fn write_at(self, out: &mut [u8], at: usize)
+        ensures { λ _. ⌜ WritesConnection self at (now (out .entry)) (now (out .exit)) ⌝ }
+    {
+        if out.len() < at {
+            return;
+        }
+        if out.len() - at < 3096 {
+            return;
+        }
+        let state = self.local_state;
+        let endpoint = self.endpoint;
+        put_number(out, at, 1, state.number() as u64);
+        endpoint.write_at(out, at + 1);
     }
 
     pub fn role(self) -> Role
@@ -661,6 +709,18 @@ impl Connection {
                 endpoint: after,
             },
         }
+    }
+}
+
+// What bytes give that are not those of a sound connection.
+fn unread() -> ConnectionRead
+    ensures { λ r. ⌜ Unread r ⌝ }
+{
+    let made = Connection::dialler(b"", Connection::MIN_MAX_FRAME_SIZE, 0, IdleTimeOut::Never);
+    let connection = made.connection;
+    ConnectionRead {
+        fine: false,
+        connection,
     }
 }
 

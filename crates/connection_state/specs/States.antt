@@ -2,6 +2,7 @@
 -- Assumes nothing: these are definitions.
 use mathlib.Core.Bool.{Bool, true, false, cond}
 use mathlib.Core.List.{List, [], _∷_}
+use mathlib.Core.Option.{Option, none, some}
 use Prim.Native.Nat.{ℕ}
 use lib.Dec.{eqb}
 use Rattle.octets.specs.Verdict.{Verdict, refuse, accept}
@@ -24,6 +25,20 @@ numbered CloseReceived = 10
 numbered CloseSent = 11
 numbered Discarding = 12
 numbered End = 13
+
+abbrev pub states : List State
+states =
+    Start ∷ HeaderReceived ∷ HeaderSent ∷ HeaderExchange ∷ OpenPipe ∷ OpenClosePipe ∷ OpenReceived
+    ∷ OpenSent ∷ ClosePipe ∷ Opened ∷ CloseReceived ∷ CloseSent ∷ Discarding ∷ End ∷ []
+
+-- the first of these that has the number
+abbrev pub numberedIn : List State → ℕ → Option State
+numberedIn [] k = none
+numberedIn (x ∷ xs) k = cond (eqb (numbered x) k) (some x) (numberedIn xs k)
+
+-- the state that has the number
+unfoldable pub withNumber : ℕ → Option State
+withNumber k = numberedIn states k
 
 abbrev pub is : State → State → Bool
 is a b = eqb (numbered a) (numbered b)

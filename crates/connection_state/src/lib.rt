@@ -1,9 +1,9 @@
 // The states of a connection and the moves between them (Part 2, section 2.4.6).
 ghost use mathlib.Core.Path.{_≡_};
-ghost use Rattle.connection_state.specs.States.{along, is, isOneOf, numbered, Discarding, End};
+ghost use Rattle.connection_state.specs.States.{along, is, isOneOf, numbered, withNumber, Discarding, End};
 ghost use Rattle.connection_state.specs.States.{sendHeader, receiveHeader, receiveOtherHeader, sendOpen, readOpen, sendClose, sendCloseWithError, readClose};
 ghost use Rattle.connection_state.specs.States.{reading, sending, stopped, silent};
-ghost use Rattle.connection_state.specs.Answers.{stateSays, movedSays};
+ghost use Rattle.connection_state.specs.Answers.{stateSays, movedSays, numberedSays};
 
 pub enum ConnectionState {
     Start,
@@ -26,6 +26,12 @@ pub enum ConnectionState {
 pub enum Moved {
     To(ConnectionState),
     Illegal,
+}
+
+// The state that has a number, or that none has it.
+pub enum NumberedState {
+    Is(ConnectionState),
+    Unknown,
 }
 
 impl ConnectionState {
@@ -211,6 +217,29 @@ impl ConnectionState {
             ConnectionState::CloseSent => 11,
             ConnectionState::Discarding => 12,
             ConnectionState::End => 13,
+        }
+    }
+
+    // The state that has the number.
+    pub fn with_number(k: u8) -> NumberedState
+        ensures { λ r. ⌜ numberedSays r ≡ withNumber k ⌝ }
+    {
+        match k {
+            0 => NumberedState::Is(ConnectionState::Start),
+            1 => NumberedState::Is(ConnectionState::HeaderReceived),
+            2 => NumberedState::Is(ConnectionState::HeaderSent),
+            3 => NumberedState::Is(ConnectionState::HeaderExchange),
+            4 => NumberedState::Is(ConnectionState::OpenPipe),
+            5 => NumberedState::Is(ConnectionState::OpenClosePipe),
+            6 => NumberedState::Is(ConnectionState::OpenReceived),
+            7 => NumberedState::Is(ConnectionState::OpenSent),
+            8 => NumberedState::Is(ConnectionState::ClosePipe),
+            9 => NumberedState::Is(ConnectionState::Opened),
+            10 => NumberedState::Is(ConnectionState::CloseReceived),
+            11 => NumberedState::Is(ConnectionState::CloseSent),
+            12 => NumberedState::Is(ConnectionState::Discarding),
+            13 => NumberedState::Is(ConnectionState::End),
+            _ => NumberedState::Unknown,
         }
     }
 }

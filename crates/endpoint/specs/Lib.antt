@@ -1,3 +1,5 @@
 pub mod Answers
+pub mod Bytes
 pub mod Promises
 pub mod Outgoing
+pub mod Parts

@@ -1,19 +1,25 @@
 -- What the calls of an endpoint promise.
 -- Assumes nothing: these are definitions.
 use mathlib.Core.Path.{_≡_}
+use mathlib.Core.Bool.{true, false}
 use mathlib.Core.List.{List}
 use Prim.Native.Nat.{ℕ, min}
 use Rattle.channels.specs.Numbers.{takenBelow}
 use Rattle.octets.specs.Verdict.{Verdict, refuse}
+use Rattle.octets.specs.Octets.{put}
 use Rattle.octets.specs.Output.{laid}
+use Rattle.frame_encoder.specs.Frames.{Settings}
 use Rattle.connection_state.specs.States.{State, Start}
 use Rattle.connection_model.specs.Connection.{Answer, Outcome, agree, apply, clamped, fresh, answered, after, written, released}
 use Rattle.channels.specs.Channels.{SharedBy}
 use Rattle.channels.specs.declared.Held.{Held}
 use Rattle.local_open.specs.declared.LocalOpen.{LocalOpen}
-use Rattle.local_open.specs.Settings.{openSays}
+use Rattle.local_open.specs.Settings.{openSays, smallest}
+use Rattle.connection_model.specs.Connection as M
 use Rattle.endpoint.specs.declared.Role.{Role}
 use Rattle.endpoint.specs.declared.Endpoint.{Endpoint}
+use Rattle.endpoint.specs.declared.EndpointRead.{EndpointRead}
+use Rattle.endpoint.specs.Bytes.{endpointBytes, Storable}
 use Rattle.endpoint.specs.Answers.{roleSays, roleOf, settingsOf, takenOf, viewAs, deallocateSays}
 
 -- the role and the settings stay
@@ -50,3 +56,22 @@ pub record Frees (before : Endpoint) (ch : ℕ) (a : Held) (later : Endpoint) : 
 
 pub record Counts (e : Endpoint) (r : ℕ) : Type 0 where
   pub counts : SharedBy (e .outgoing) → r ≡ takenBelow 256 (takenOf e)
+
+-- ---- bytes
+
+-- a new dialler's, with the smallest settings
+pub record Newest (e : Endpoint) : Type 0 where
+  pub newest-role : roleOf e ≡ M.dialler
+  pub newest-settings : settingsOf e ≡ smallest
+  pub newest-fresh : viewAs Start e ≡ fresh
+
+-- an endpoint that has these bytes, in a connection in state x, or that there is none
+pub record ReadsEndpoint (s : List ℕ) (x : State) (r : EndpointRead) : Type 0 where
+  pub yes : r .fine ≡ true → s ≡ endpointBytes (roleOf (r .endpoint)) (settingsOf (r .endpoint)) (viewAs x (r .endpoint))
+  pub storable : r .fine ≡ true → Storable (settingsOf (r .endpoint)) (viewAs x (r .endpoint))
+  pub no : r .fine ≡ false → (role : M.Role) (S : Settings) (c : M.Connection) → c .state ≡ x → Storable S c → s ≡ endpointBytes role S c → ⊥
+  pub new : r .fine ≡ false → Newest (r .endpoint)
+
+-- the bytes of an endpoint whose channel numbers keep the rule are laid at a place
+pub record WritesEndpoint (self : Endpoint) (at : ℕ) (before after : List ℕ) : Type 0 where
+  pub lays : SharedBy (self .outgoing) → (x : State) → after ≡ put before at (endpointBytes (roleOf self) (settingsOf self) (viewAs x self))

@@ -7,21 +7,27 @@ use channels::Held;
 use channels::OutgoingChannels;
 use connection_state::ConnectionState;
 use frame_decoder::Frame;
+use frame_encoder::IdleTimeOut;
 use local_open::LocalOpen;
 use octets::Written;
+use octets::number;
+use octets::put_number;
 use performatives::Performative;
 use performatives::RemoteChannel;
 ghost use mathlib.Core.Path.{_≡_};
 ghost use mathlib.Core.Bool.{cond};
 ghost use mathlib.Core.List.{[]};
-ghost use Prim.Native.Nat.{_-_, min};
+ghost use Prim.Native.Nat.{_-_, _≤_, min};
 ghost use lib.Dec.{eqb};
+ghost use lib.ListN.{length, getD};
+ghost use Rattle.octets.specs.Octets.{put};
 ghost use Rattle.octets.specs.Verdict.{refuse, accept};
 ghost use Rattle.octets.specs.declared.Written.the-variants.{Refused as NotWritten};
 ghost use Rattle.performatives.specs.Answers.{performativeSays, channelSays};
 ghost use Rattle.session_frame.specs.Session.{writeSession};
 ghost use Rattle.connection_state.specs.States.{Start, Opened};
 ghost use Rattle.connection_model.specs.Connection.{clamped, forwarded, given, sessionRead, begun, newSession, untie, passOn, tiedBy, decide, sendSessionFrame};
+ghost use Rattle.connection_model.specs.Sound.{stage};
 ghost use Rattle.connection_state.specs.Answers.{stateSays};
 ghost use Rattle.channels.specs.Channels.{heldSays, agreedMaxSays};
 ghost use Rattle.local_open.specs.Settings.{openSays};
@@ -42,7 +48,9 @@ ghost use Rattle.endpoint.specs.Answers.{
   tieSays,
   refusalOf,
 };
-ghost use Rattle.endpoint.specs.Promises.{Steps, Sends, Begins, Agrees, Frees, Counts};
+ghost use Rattle.endpoint.specs.Promises.{Steps, Sends, Begins, Agrees, Frees, Counts, ReadsEndpoint, WritesEndpoint};
+ghost use Rattle.endpoint.specs.Bytes.{roleNumber};
+ghost use Rattle.endpoint.specs.Parts.{headBytes, TellsLimits, TellsWithin, TellsEarly, TellsStage, TellsReached, ReadsLimit, ReadsTables, UnreadEndpoint, ReadsParts};
 ghost use Rattle.endpoint.specs.Outgoing.{Low, Ties, tiesAndWrites};
 
 // Who opened the transport: a dialler starts sessions only of its own, a listener also takes those that its peer starts.
@@ -96,6 +104,19 @@ pub enum FrameAnswer {
         len: usize,
     },
     Refused(u8),
+}
+
+// An endpoint that was read from bytes. Where `fine` is false, the bytes are not those of an endpoint, and a new dialler's stands in its place.
+pub struct EndpointRead {
+    pub fine: bool,
+    pub endpoint: Endpoint,
+}
+
+// The tables that were read from bytes. Where `fine` is false, the bytes are not those of the two tables, and these say nothing.
+struct TablesRead {
+    fine: bool,
+    outgoing: OutgoingChannels,
+    incoming: Handles,
 }
 
 pub struct Routed {
@@ -193,6 +214,123 @@ fn refusal(frame: Frame) -> u8
             performative: _,
             end: _,
         } => 6,
+    }
+}
+
+// How far a connection in the state is: 0 before the peer's Open or Close, 1 with the peer's Open alone, and more after that.
+fn stage(state: ConnectionState) -> u8
+    ensures { λ r. ⌜ r ≡ stage (stateSays state) ⌝ }
+{
+    match state {
+        ConnectionState::Start => 0,
+        ConnectionState::HeaderReceived => 0,
+        ConnectionState::HeaderSent => 0,
+        ConnectionState::HeaderExchange => 0,
+        ConnectionState::OpenPipe => 0,
+        ConnectionState::OpenClosePipe => 0,
+        ConnectionState::OpenReceived => 1,
+        ConnectionState::OpenSent => 0,
+        ConnectionState::ClosePipe => 0,
+        ConnectionState::Opened => 2,
+        ConnectionState::CloseReceived => 3,
+        ConnectionState::CloseSent => 4,
+        ConnectionState::Discarding => 4,
+        ConnectionState::End => 4,
+    }
+}
+
+// The role that has a number.
+fn role_of(n: u8) -> Role
+    requires { ⌜ n ≤ 1 ⌝ }
+    ensures { λ r. ⌜ roleNumber (roleSays r) ≡ n ⌝ }
+{
+    if n == 0 {
+        return Role::Dialler;
+    }
+    Role::Listener
+}
+
+// The number of a role.
+fn role_number(role: Role) -> u8
+    ensures { λ r. ⌜ r ≡ roleNumber (roleSays role) ⌝ }
+{
+    match role {
+        Role::Dialler => 0,
+        Role::Listener => 1,
+    }
+}
+
+// A limit from its 4 bytes.
+fn read_limit(s: &[u8]) -> u32
+    requires { ⌜ length (now s) ≡ 4 ⌝ }
+    ensures { λ r. ⌜ ReadsLimit (now (s .entry)) r ⌝ }
+{
+    number(s) as u32
+}
+
+// The tables of outgoing and of incoming channels.
+fn read_tables(s: &[u8]) -> TablesRead
+    requires { ⌜ length (now s) ≡ 2820 ⌝ }
+    ensures { λ r. ⌜ ReadsTables (now (s .entry)) r ⌝ }
+{
+    let channels = OutgoingChannels::from_bytes(&s[..1540]);
+    let handles = Handles::from_bytes(&s[1540..2820]);
+    let outgoing = channels.channels;
+    let incoming = handles.handles;
+    if !channels.fine {
+        return TablesRead {
+            fine: false,
+            outgoing,
+            incoming,
+        };
+    }
+    TablesRead {
+        fine: handles.fine,
+        outgoing,
+        incoming,
+    }
+}
+
+// What bytes give that are not those of an endpoint.
+fn unread() -> EndpointRead
+    ensures { λ r. ⌜ UnreadEndpoint r ⌝ }
+{
+    let made = LocalOpen::new(b"", MIN_MAX_FRAME_SIZE, 0, IdleTimeOut::Never);
+    let open = made.open;
+    let endpoint = Endpoint::new(Role::Dialler, open);
+    EndpointRead {
+        fine: false,
+        endpoint,
+    }
+}
+
+// The endpoint of a role that the bytes stand for, whether or not calls can lead to it.
+fn read_parts(s: &[u8], role: Role) -> EndpointRead
+    requires { ⌜ (length (now s) ≡ 3095) × (roleNumber (roleSays role) ≡ getD (now s) 0 0) ⌝ }
+    ensures { λ r. ⌜ ReadsParts (now (s .entry)) r ⌝ }
+{
+    let open = LocalOpen::from_bytes(&s[9..275]);
+    if !open.fine {
+        return unread();
+    }
+    let tables = read_tables(&s[275..3095]);
+    if !tables.fine {
+        return unread();
+    }
+    let local_open = open.open;
+    let outgoing = tables.outgoing;
+    let incoming = tables.incoming;
+    let endpoint = Endpoint {
+        role,
+        local_open,
+        reading_limit: read_limit(&s[1..5]),
+        writing_limit: read_limit(&s[5..9]),
+        outgoing,
+        incoming,
+    };
+    EndpointRead {
+        fine: true,
+        endpoint,
     }
 }
 
@@ -534,5 +672,149 @@ impl Endpoint {
         let ties = incoming.insert(channel as u8, handle);
         self.incoming = ties;
         self
+    }
+
+    // Whether the limits are those of a connection with these settings.
+    fn has_limits(self) -> bool
+        ensures { λ r. ⌜ TellsLimits self r ⌝ }
+    {
+        if self.writing_limit < MIN_MAX_FRAME_SIZE {
+            return false;
+        }
+        if MAX_FRAME_SIZE < self.writing_limit {
+            return false;
+        }
+        if self.reading_limit == MIN_MAX_FRAME_SIZE {
+            return true;
+        }
+        let open = self.local_open;
+        let size = open.max_frame_size();
+        if self.reading_limit == size {
+            return true;
+        }
+        false
+    }
+
+    // Whether the tied channels and the agreed channel-max are at most the channel-max that the peer was told.
+    fn is_within(self) -> bool
+        ensures { λ r. ⌜ TellsWithin self r ⌝ }
+    {
+        let highest = self.channel_max();
+        let incoming = self.incoming;
+        if !incoming.are_below((highest as u16) + 1) {
+            return false;
+        }
+        let agreed = self.agreed_max();
+        let AgreedMax::Is(m) = agreed else {
+            return true;
+        };
+        if highest < m {
+            return false;
+        }
+        true
+    }
+
+    // Whether the limits are the least, and nothing is agreed.
+    fn is_early(self) -> bool
+        ensures { λ r. ⌜ TellsEarly self r ⌝ }
+    {
+        if self.reading_limit != MIN_MAX_FRAME_SIZE {
+            return false;
+        }
+        if self.writing_limit != MIN_MAX_FRAME_SIZE {
+            return false;
+        }
+        let agreed = self.agreed_max();
+        let AgreedMax::Absent = agreed else {
+            return false;
+        };
+        true
+    }
+
+    // Whether there is nothing that comes only after a stage.
+    fn is_at_stage(self, stage: u8) -> bool
+        ensures { λ r. ⌜ TellsStage self stage r ⌝ }
+    {
+        if 1 < stage {
+            return true;
+        }
+        let incoming = self.incoming;
+        if !incoming.are_below(0) {
+            return false;
+        }
+        if stage == 1 {
+            return true;
+        }
+        self.is_early()
+    }
+
+    // Whether calls can lead to the endpoint in a connection in this state, if its channel numbers keep the rule.
+    fn is_reached(self, state: ConnectionState) -> bool
+        ensures { λ r. ⌜ TellsReached self (stateSays state) r ⌝ }
+    {
+        if !self.has_limits() {
+            return false;
+        }
+        if !self.is_within() {
+            return false;
+        }
+        self.is_at_stage(stage(state))
+    }
+
+    // The endpoint that 3,095 bytes stand for, in a connection in this state.
+    pub fn from_bytes(s: &[u8], state: ConnectionState) -> EndpointRead
+        ensures { λ r. ⌜ ReadsEndpoint (now (s .entry)) (stateSays state) r ⌝ }
+    {
+        if s.len() != 3095 {
+            return unread();
+        }
+        let n = s[0];
+        if 1 < n {
+            return unread();
+        }
+        let read = read_parts(s, role_of(n));
+        if !read.fine {
+            return unread();
+        }
+        let endpoint = read.endpoint;
+        if endpoint.is_reached(state) {
+            return read;
+        }
+        unread()
+    }
+
+    // Lays the role and the limits into the buffer at a place, if they fit there.
+    fn write_head_at(self, out: &mut [u8], at: usize)
+        ensures { λ _. ⌜ now (out .exit) ≡ put (now (out .entry)) at (headBytes self) ⌝ }
+    {
+        if out.len() < at {
+            return;
+        }
+        if out.len() - at < 9 {
+            return;
+        }
+        let role = self.role;
+        put_number(out, at, 1, role_number(role) as u64);
+        put_number(out, at + 1, 4, self.reading_limit as u64);
+        put_number(out, at + 5, 4, self.writing_limit as u64);
+    }
+
+    // Lays the endpoint as 3,095 bytes into the buffer at a place, if they fit there.
+    pub fn write_at(self, out: &mut [u8], at: usize)
+        ensures { λ _. ⌜ WritesEndpoint self at (now (out .entry)) (now (out .exit)) ⌝ }
+    {
+        if out.len() < at {
+            return;
+        }
+        if out.len() - at < 3095 {
+            return;
+        }
+        let open = self.local_open;
+        let outgoing = self.outgoing;
+        let incoming = self.incoming;
+        self.write_head_at(out, at);
+        open.write_at(out, at + 9);
+        outgoing.write_at(out, at + 275);
+        incoming.write_at(out, at + 1815);
     }
 }

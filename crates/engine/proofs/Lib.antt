@@ -1,6 +1,7 @@
 -- What the events promise, from the rules of the definition.
 pub mod Counted
 pub mod Does
+pub mod Bare
 pub mod Well
 pub mod Phases
 pub mod Errors

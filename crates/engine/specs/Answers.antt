@@ -1,5 +1,6 @@
 -- What an engine stands for in its definition, and what the answers of its events say.
 -- Assumes nothing: these are definitions.
+use mathlib.Core.Path.{_≡_}
 use mathlib.Core.Bool.{Bool, true, false}
 use mathlib.Core.Option.{Option, none, some}
 use Prim.Native.Nat.{ℕ}
@@ -79,6 +80,12 @@ abbrev pub replySays : R.Running → ℕ → ℕ → Option (Verdict Answer) →
 replySays Continue consumed written inner = reply none consumed written inner
 replySays (Stop o) consumed written inner = reply (some (outcomeSays o)) consumed written inner
 replySays (Refused k) consumed written inner = refuse k
+
+-- a refused event consumed and wrote nothing, and its answer is that refusal: P k says so of a refusal with k
+abbrev pub Bare : R.Running → ℕ → ℕ → (ℕ → Type 0) → Type 0
+Bare Continue consumed written P = Unit {0}
+Bare (Stop o) consumed written P = Unit {0}
+Bare (Refused k) consumed written P = (consumed ≡ 0) × (written ≡ 0) × P k
 
 -- a call that opens the connection goes on, whatever it answers; so many bytes were consumed
 abbrev pub openingSays : ℕ → ℕ → Verdict Answer → Verdict Reply

@@ -22,6 +22,10 @@ ghost use mathlib.Core.Bool.{not};
 ghost use mathlib.Core.List.{[]};
 ghost use mathlib.Core.Option.{none, some};
 ghost use Rattle.octets.specs.declared.Written.the-variants.{Refused as NotWritten};
+ghost use Rattle.channels.specs.declared.Held.the-variants.{Nothing};
+ghost use Rattle.endpoint.specs.declared.FrameAnswer.the-variants.{Refused as NoFrame};
+ghost use Rattle.connection.specs.declared.AllocateAnswer.the-variants.{Refused as NoChannel};
+ghost use Rattle.connection.specs.declared.TickAnswer.the-variants.{Refused as NotTicked};
 ghost use Rattle.frame_encoder.specs.Answers.{settings};
 ghost use Rattle.connection_model.specs.Connection.{dialler, listener};
 ghost use Rattle.connection_state.specs.Answers.{stateSays};
@@ -41,7 +45,7 @@ ghost use Rattle.endpoint.specs.Answers.{answerSays, roleSays, sentSays, deallo
 ghost use Rattle.engine_model.specs.Engine as M;
 ghost use Rattle.engine_model.specs.Engine.{isRunning, isStopped, outcomeOf, phaseAnswered, incoming, sendFault, readFault, closedBy, isClose, phaseRead, outgoing, closedWith, cutShort, notDelivered, endOfInput, sendHeader, receiveHeader, sendOpen};
 ghost use Rattle.engine.specs.declared.Running.the-variants.{Refused as NotRun};
-ghost use Rattle.engine.specs.Answers.{phaseSays, outcomeSays, errorSays, goesOn, replySays, openingSays, sentCount, tickCount};
+ghost use Rattle.engine.specs.Answers.{phaseSays, outcomeSays, errorSays, goesOn, replySays, Bare, openingSays, sentCount, tickCount};
 ghost use Rattle.engine.specs.Promises.{Does, Makes, Settles, Tells, Fails, Ends, Handled, consumedFor, lacksBytes, closeOf, awaitedBy, LeadsTo, notClosed, endable};
 
 // How an engine ends.
@@ -723,6 +727,13 @@ impl ConnectionEngine {
         self.phase
     }
 
+    // An engine in this phase, with this connection. It is as sound as its connection.
+    pub fn resumed(phase: Phase, connection: Connection) -> ConnectionEngine
+        ensures { λ r. ⌜ r ≡ record { phase = phase; connection = connection } ⌝ }
+    {
+        ConnectionEngine { phase, connection }
+    }
+
     // Whether the engine goes on
     pub fn running(self) -> Running
         ensures { λ r. ⌜ r ≡ goesOn (self .phase) ⌝ }
@@ -748,7 +759,7 @@ impl ConnectionEngine {
 
     // Takes the next free channel for a session.
     pub fn on_allocate(self, handle: u32) -> OnAllocate
-        ensures { λ r. ⌜ Does (M.allocate handle) self (replySays (r .running) 0 0 (some (allocateSays (r .answer)))) [] (r .engine) ⌝ }
+        ensures { λ r. ⌜ Does (M.allocate handle) self (replySays (r .running) 0 0 (some (allocateSays (r .answer)))) [] (r .engine) × Bare (r .running) 0 0 (λ k. r .answer ≡ NoChannel k) ⌝ }
     {
         if self.is_ending() {
             return OnAllocate {
@@ -777,7 +788,7 @@ impl ConnectionEngine {
 
     // Gives a session's channel back.
     pub fn on_deallocate(self, channel: u16) -> OnDeallocate
-        ensures { λ r. ⌜ Does (M.deallocate channel) self (replySays (r .running) 0 0 (some (deallocateSays (r .answer)))) [] (r .engine) ⌝ }
+        ensures { λ r. ⌜ Does (M.deallocate channel) self (replySays (r .running) 0 0 (some (deallocateSays (r .answer)))) [] (r .engine) × Bare (r .running) 0 0 (λ k. r .answer ≡ Nothing) ⌝ }
     {
         if self.is_ending() {
             return OnDeallocate {
@@ -806,7 +817,7 @@ impl ConnectionEngine {
 
     // Writes the empty frame that keeps an idle connection alive.
     pub fn on_heartbeat(self, out: &mut [u8]) -> OnHeartbeat
-        ensures { λ r. ⌜ Does (M.tick (now (out .entry))) self (replySays (r .running) 0 (tickCount (r .answer)) (some (tickSays (r .answer)))) (now (out .exit)) (r .engine) ⌝ }
+        ensures { λ r. ⌜ Does (M.tick (now (out .entry))) self (replySays (r .running) 0 (tickCount (r .answer)) (some (tickSays (r .answer)))) (now (out .exit)) (r .engine) × Bare (r .running) 0 0 (λ k. r .answer ≡ NotTicked k) ⌝ }
     {
         if out.len() < OUTPUT_ROOM {
             return self.no_heartbeat(9);
@@ -829,7 +840,7 @@ impl ConnectionEngine {
     }
 
     fn no_heartbeat(self, k: u8) -> OnHeartbeat
-        ensures { λ r. ⌜ (r .running ≡ NotRun k) × (r .engine ≡ self) ⌝ }
+        ensures { λ r. ⌜ (r .running ≡ NotRun k) × (r .engine ≡ self) × (r .answer ≡ NotTicked k) ⌝ }
     {
         OnHeartbeat {
             running: Running::Refused(k),
@@ -839,7 +850,7 @@ impl ConnectionEngine {
     }
 
     fn not_outgoing(self, k: u8) -> OnOutgoing
-        ensures { λ r. ⌜ (r .running ≡ NotRun k) × (r .engine ≡ self) ⌝ }
+        ensures { λ r. ⌜ (r .running ≡ NotRun k) × (r .engine ≡ self) × (r .written ≡ 0) × (r .answer ≡ NotWritten k) ⌝ }
     {
         OnOutgoing {
             running: Running::Refused(k),
@@ -851,7 +862,7 @@ impl ConnectionEngine {
 
     // Sends a session's frame, lent whole. Refusals from 20 on are the state's, and take the error path.
     pub fn on_outgoing_session_frame(self, frame: &[u8], out: &mut [u8]) -> OnOutgoing
-        ensures { λ r. ⌜ Does (outgoing (now (frame .entry)) (now (out .entry))) self (replySays (r .running) 0 (r .written) (some (sentSays (r .answer)))) (now (out .exit)) (r .engine) ⌝ }
+        ensures { λ r. ⌜ Does (outgoing (now (frame .entry)) (now (out .entry))) self (replySays (r .running) 0 (r .written) (some (sentSays (r .answer)))) (now (out .exit)) (r .engine) × Bare (r .running) 0 (r .written) (λ k. r .answer ≡ NotWritten k) ⌝ }
     {
         if lacks_room(out.len(), frame.len()) {
             return self.not_outgoing(9);
@@ -911,7 +922,7 @@ impl ConnectionEngine {
         waiting: &[u8],
         out: &mut [u8],
     ) -> OnOutgoing
-        ensures { λ r. ⌜ Does (closeOrder (errorIf «with_error» (now (condition .entry)) described (now (description .entry))) (now (waiting .entry)) (now (out .entry))) self (replySays (r .running) 0 (r .written) (some (sentSays (r .answer)))) (now (out .exit)) (r .engine) ⌝ }
+        ensures { λ r. ⌜ Does (closeOrder (errorIf «with_error» (now (condition .entry)) described (now (description .entry))) (now (waiting .entry)) (now (out .entry))) self (replySays (r .running) 0 (r .written) (some (sentSays (r .answer)))) (now (out .exit)) (r .engine) × Bare (r .running) 0 (r .written) (λ k. r .answer ≡ NotWritten k) ⌝ }
     {
         let fine = error_fine(with_error, condition, described, description);
         let frames = self.frames_to_send(fine, waiting, out.len());
@@ -942,7 +953,7 @@ impl ConnectionEngine {
 
     // Sends the session frames that wait, and then a Close.
     pub fn on_close(self, waiting: &[u8], out: &mut [u8]) -> OnOutgoing
-        ensures { λ r. ⌜ Does (closeOrder none (now (waiting .entry)) (now (out .entry))) self (replySays (r .running) 0 (r .written) (some (sentSays (r .answer)))) (now (out .exit)) (r .engine) ⌝ }
+        ensures { λ r. ⌜ Does (closeOrder none (now (waiting .entry)) (now (out .entry))) self (replySays (r .running) 0 (r .written) (some (sentSays (r .answer)))) (now (out .exit)) (r .engine) × Bare (r .running) 0 (r .written) (λ k. r .answer ≡ NotWritten k) ⌝ }
     {
         self.close(false, b"", false, b"", waiting, out)
     }
@@ -956,13 +967,13 @@ impl ConnectionEngine {
         waiting: &[u8],
         out: &mut [u8],
     ) -> OnOutgoing
-        ensures { λ r. ⌜ Does (closeOrder (some (errorText (now (condition .entry)) described (now (description .entry)))) (now (waiting .entry)) (now (out .entry))) self (replySays (r .running) 0 (r .written) (some (sentSays (r .answer)))) (now (out .exit)) (r .engine) ⌝ }
+        ensures { λ r. ⌜ Does (closeOrder (some (errorText (now (condition .entry)) described (now (description .entry)))) (now (waiting .entry)) (now (out .entry))) self (replySays (r .running) 0 (r .written) (some (sentSays (r .answer)))) (now (out .exit)) (r .engine) × Bare (r .running) 0 (r .written) (λ k. r .answer ≡ NotWritten k) ⌝ }
     {
         self.close(true, condition, described, description, waiting, out)
     }
 
     fn not_taken(self, k: u8) -> OnIncoming
-        ensures { λ r. ⌜ (r .running ≡ NotRun k) × (r .engine ≡ self) ⌝ }
+        ensures { λ r. ⌜ (r .running ≡ NotRun k) × (r .engine ≡ self) × (r .consumed ≡ 0) × (r .written ≡ 0) × (r .answer ≡ NoFrame k) ⌝ }
     {
         OnIncoming {
             running: Running::Refused(k),
@@ -1027,7 +1038,7 @@ impl ConnectionEngine {
     // Takes the frame that the bytes start with. A session that the peer begins gets the spare handle. The session frames that wait are sent
     // if the frame is a Close that is to be answered.
     pub fn on_incoming(self, s: &[u8], spare: u32, waiting: &[u8], out: &mut [u8]) -> OnIncoming
-        ensures { λ r. ⌜ Does (incoming (now (s .entry)) spare (now (waiting .entry)) (now (out .entry))) self (replySays (r .running) (r .consumed) (r .written) (some (answerSays (r .answer)))) (now (out .exit)) (r .engine) ⌝ }
+        ensures { λ r. ⌜ Does (incoming (now (s .entry)) spare (now (waiting .entry)) (now (out .entry))) self (replySays (r .running) (r .consumed) (r .written) (some (answerSays (r .answer)))) (now (out .exit)) (r .engine) × Bare (r .running) (r .consumed) (r .written) (λ k. r .answer ≡ NoFrame k) ⌝ }
     {
         if lacks_room(out.len(), waiting.len()) {
             return self.not_taken(9);
@@ -1052,7 +1063,7 @@ impl ConnectionEngine {
     }
 
     fn not_handled(self, k: u8) -> OnError
-        ensures { λ r. ⌜ (r .running ≡ NotRun k) × (r .engine ≡ self) ⌝ }
+        ensures { λ r. ⌜ (r .running ≡ NotRun k) × (r .engine ≡ self) × (r .written ≡ 0) ⌝ }
     {
         OnError {
             running: Running::Refused(k),
@@ -1063,7 +1074,7 @@ impl ConnectionEngine {
 
     // A frame that was handed on, or a new session, could not be delivered.
     pub fn on_not_delivered(self, new_session: bool, out: &mut [u8]) -> OnError
-        ensures { λ r. ⌜ Does (notDelivered «new_session» (now (out .entry))) self (replySays (r .running) 0 (r .written) none) (now (out .exit)) (r .engine) ⌝ }
+        ensures { λ r. ⌜ Does (notDelivered «new_session» (now (out .entry))) self (replySays (r .running) 0 (r .written) none) (now (out .exit)) (r .engine) × Bare (r .running) 0 (r .written) (λ k. Unit {0}) ⌝ }
     {
         if out.len() < OUTPUT_ROOM {
             return self.not_handled(9);
@@ -1079,7 +1090,7 @@ impl ConnectionEngine {
 
     // There is no more input.
     pub fn on_end_of_input(self, out: &mut [u8]) -> OnError
-        ensures { λ r. ⌜ Does (endOfInput (now (out .entry))) self (replySays (r .running) 0 (r .written) none) (now (out .exit)) (r .engine) ⌝ }
+        ensures { λ r. ⌜ Does (endOfInput (now (out .entry))) self (replySays (r .running) 0 (r .written) none) (now (out .exit)) (r .engine) × Bare (r .running) 0 (r .written) (λ k. Unit {0}) ⌝ }
     {
         if out.len() < OUTPUT_ROOM {
             return self.not_handled(9);

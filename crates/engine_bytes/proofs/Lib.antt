@@ -1,3 +1,4 @@
--- Laws of the layout.
+-- Laws of the layout, and what the functions show.
+pub mod Phases
 pub mod Laws
-pub mod Octets
+pub mod Reading

@@ -23,21 +23,22 @@ use Rattle.local_open.specs.Settings.{allowed, checked, smallest, orSmal
 
 -- ---- which settings are within their limits
 
-second : (a b : Bool) → (a && b) ≡ true → b ≡ true
-second true b e = e
-second false b e = absurd (false≢true e)
+-- both parts of a test that holds
+pub both : (a b : Bool) → (a && b) ≡ true → (a ≡ true) × (b ≡ true)
+both true b e = (refl, e)
+both false b e = absurd (false≢true e)
 
 -- a channel-max that is allowed is one byte
 pub allowed-channel : (id : List ℕ) (size channel : ℕ) (b : Bool) → b ≡ settingsOk id size channel → b ≡ true → Fits w8 channel
 unfolding settingsOk
 allowed-channel id size channel b e q =
-    let fourth = second (leb (length id) 255) _ (sym e ∙ q) in
-    let third = second (utf8 id) _ fourth in
-    let last = second (leb size 16384) _ (second (leb 512 size) _ third) in
+    let fourth = both (leb (length id) 255) _ (sym e ∙ q) .1 in
+    let third = both (utf8 id) _ fourth .1 in
+    let last = both (leb size 16384) _ (both (leb 512 size) _ third .1) .1 in
     let h : channel ≤ 255 = leb-true channel 255 last in
     omega arith
 
-smallest-allowed : allowed smallest ≡ true
+pub smallest-allowed : allowed smallest ≡ true
 unfolding settingsOk
 smallest-allowed = rw utf8-empty
 

@@ -1,1 +1,4 @@
 pub mod Settings
+pub mod Bytes
+pub mod Promises
+pub mod Reading

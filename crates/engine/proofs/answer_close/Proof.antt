@@ -1,3 +1,5 @@
+-- `answer_close`: a waiting frame that is refused, the Close refused, and the Close written.
+-- Assumes nothing.
 use borrow.Author.Needs.{needs}
 use Rattle.engine.proofs.Answering.{answers-refused, answers-closed, answers-unclosed}
 use Rattle.engine.proofs.answer_close.Statement.{statement}

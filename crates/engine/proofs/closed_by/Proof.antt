@@ -1,3 +1,5 @@
+-- `closed_by`: a law for each return.
+-- Assumes nothing.
 use borrow.Author.Needs.{needs}
 use Rattle.engine.proofs.Incoming.{closed-error, closed-received, closed-else}
 use Rattle.engine.proofs.closed_by.Statement.{statement}

@@ -1,3 +1,5 @@
+-- `closed_with`: a law for each return.
+-- Assumes nothing.
 use borrow.Author.Needs.{needs}
 use Rattle.engine.proofs.Phases.{closed-over, closed-awaits}
 use Rattle.engine.proofs.closed_with.Statement.{statement}

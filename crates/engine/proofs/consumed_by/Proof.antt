@@ -1,3 +1,5 @@
+-- `consumed_by`: a law for each return.
+-- Assumes nothing.
 use borrow.Author.Needs.{needs}
 use Rattle.engine.proofs.Incoming.{consumes-all, consumes-3, consumes-4, consumes-size}
 use Rattle.engine.proofs.consumed_by.Statement.{statement}

@@ -1,3 +1,5 @@
+-- `cut_short`: a law for each phase.
+-- Assumes nothing.
 use borrow.Author.Needs.{needs}
 use Rattle.engine.proofs.Landing.{cut-running, cut-awaiting, cut-stopped}
 use Rattle.engine.proofs.cut_short.Statement.{statement}

@@ -1,3 +1,5 @@
+-- `error_fine`: with an error, and with none.
+-- Assumes nothing.
 use borrow.Author.Needs.{needs}
 use Rattle.engine.proofs.Closing.{fine-with}
 use Rattle.engine.proofs.error_fine.Statement.{statement}

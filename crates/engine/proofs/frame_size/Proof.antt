@@ -1,3 +1,5 @@
+-- `frame_size`: fewer than four bytes, and the first four.
+-- Assumes nothing.
 use borrow.Author.Needs.{needs}
 use Rattle.engine.proofs.Refusals.{size-short, four-are, size-long}
 use Rattle.engine.proofs.frame_size.Statement.{statement}

@@ -1,3 +1,5 @@
+-- `gone_out`: what was written, and the error path.
+-- Assumes nothing.
 use borrow.Author.Needs.{needs}
 use Rattle.engine.proofs.Closing.{out-settles, out-fails}
 use Rattle.engine.proofs.gone_out.Statement.{statement}

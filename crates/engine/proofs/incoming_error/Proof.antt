@@ -1,3 +1,5 @@
+-- `incoming_error`: a law for each return.
+-- Assumes nothing.
 use borrow.Author.Needs.{needs}
 use Rattle.engine.proofs.Incoming.{read-illegal, read-unknown, read-dialler, read-listener, read-transport}
 use Rattle.engine.proofs.incoming_error.Statement.{statement}

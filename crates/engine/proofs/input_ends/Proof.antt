@@ -1,3 +1,5 @@
+-- `input_ends`: the input may end, or the error path.
+-- Assumes nothing.
 use borrow.Author.Needs.{needs}
 use Rattle.engine.proofs.Landing.{ends-fine, ends-failing}
 use Rattle.engine.proofs.input_ends.Statement.{statement}

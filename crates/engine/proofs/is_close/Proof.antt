@@ -1,3 +1,5 @@
+-- `is_close`: a frame without a performative, a Close, and every other performative.
+-- Assumes nothing.
 use borrow.Author.Needs.{needs}
 use Rattle.engine.proofs.Incoming.{close-none, close-body, other-body}
 use Rattle.engine.proofs.is_close.Statement.{statement}

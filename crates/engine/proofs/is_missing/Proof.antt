@@ -1,3 +1,5 @@
+-- `is_missing`: a law for each return.
+-- Assumes nothing.
 use borrow.Author.Needs.{needs}
 use Rattle.engine.proofs.Incoming.{lacks-not, lacks-by}
 use Rattle.engine.proofs.is_missing.Statement.{statement}

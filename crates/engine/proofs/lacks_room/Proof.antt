@@ -1,3 +1,5 @@
+-- `lacks_room`: a law for each return.
+-- Assumes nothing.
 use borrow.Author.Needs.{needs}
 use Rattle.engine.proofs.Errors.{no-room, little-room, room-enough}
 use Rattle.engine.proofs.lacks_room.Statement.{statement}

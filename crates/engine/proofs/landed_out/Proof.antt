@@ -1,3 +1,5 @@
+-- `landed_out`: one law for its one return.
+-- Assumes nothing.
 use borrow.Author.Needs.{needs}
 use Rattle.engine.proofs.Closing.{lands-out}
 use Rattle.engine.proofs.landed_out.Statement.{statement}

@@ -1,3 +1,5 @@
+-- `may_end`: by the state.
+-- Assumes nothing.
 use borrow.Author.Needs.{needs}
 use Rattle.connection_state.specs.States.{isOneOf}
 use Rattle.connection_state.proofs.Laws.{there, fails}

@@ -1,3 +1,5 @@
+-- `on_error`: the Close written, and the Close refused.
+-- Assumes nothing.
 use borrow.Author.Needs.{needs}
 use Rattle.engine.proofs.Failing.{fails-closed, fails-unclosed}
 use Rattle.engine.proofs.on_error.Statement.{statement}

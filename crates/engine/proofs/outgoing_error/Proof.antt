@@ -1,3 +1,5 @@
+-- `outgoing_error`: a law for each return.
+-- Assumes nothing.
 use borrow.Author.Needs.{needs}
 use Rattle.engine.proofs.Refusals.{leads-illegal, leads-unknown, leads-transport}
 use Rattle.engine.proofs.outgoing_error.Statement.{statement}

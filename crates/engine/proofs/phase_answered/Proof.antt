@@ -1,3 +1,5 @@
+-- `phase_answered`: a law for each return.
+-- Assumes nothing.
 use borrow.Author.Needs.{needs}
 use Rattle.engine.proofs.Incoming.{answered-refused, answered-taken}
 use Rattle.engine.proofs.phase_answered.Statement.{statement}

@@ -1,3 +1,5 @@
+-- `phase_awaited`: a law for each return.
+-- Assumes nothing.
 use borrow.Author.Needs.{needs}
 use Rattle.engine.proofs.Incoming.{awaited-refused, awaited-closed, awaited-on}
 use Rattle.engine.proofs.phase_awaited.Statement.{statement}

@@ -1,3 +1,5 @@
+-- `phase_read`: a law for each return.
+-- Assumes nothing.
 use borrow.Author.Needs.{needs}
 use Rattle.engine.proofs.Incoming.{phase-closed, phase-over, phase-on}
 use Rattle.engine.proofs.phase_read.Statement.{statement}

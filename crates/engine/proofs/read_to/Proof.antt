@@ -1,3 +1,5 @@
+-- `read_to`: the error path, and the frame read.
+-- Assumes nothing.
 use borrow.Author.Needs.{needs}
 use Rattle.engine.proofs.Incoming.{leads-failing, leads-on}
 use Rattle.engine.proofs.read_to.Statement.{statement}

@@ -1,3 +1,5 @@
+-- `send_last`: with an error, and with none.
+-- Assumes nothing.
 use borrow.Author.Needs.{needs}
 use Rattle.engine.proofs.Closing.{last-with, last-without}
 use Rattle.engine.proofs.send_last.Statement.{statement}

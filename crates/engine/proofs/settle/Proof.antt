@@ -1,3 +1,5 @@
+-- `settle`: the connection is over, or goes on.
+-- Assumes nothing.
 use borrow.Author.Needs.{needs}
 use Rattle.engine.proofs.Phases.{over, on}
 use Rattle.engine.proofs.settle.Statement.{statement}

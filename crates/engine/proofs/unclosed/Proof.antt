@@ -1,3 +1,5 @@
+-- `unclosed`: by the number, and then by the state.
+-- Assumes nothing.
 use borrow.Author.Needs.{needs}
 use Rattle.engine.proofs.Phases.{unclosed-else, unclosed-there, unclosed-elsewhere}
 use Rattle.engine.proofs.unclosed.Statement.{statement}

@@ -1,3 +1,5 @@
+-- `undelivered`: a law for each return.
+-- Assumes nothing.
 use borrow.Author.Needs.{needs}
 use Rattle.engine.proofs.Landing.{undelivered-frame, undelivered-dialler, undelivered-session}
 use Rattle.engine.proofs.undelivered.Statement.{statement}

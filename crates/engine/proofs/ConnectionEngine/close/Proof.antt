@@ -1,4 +1,7 @@
+-- `close`: the refusals of the order, a waiting frame that is refused, and the Close.
+-- Assumes nothing.
 use borrow.Author.Needs.{needs}
+use Rattle.engine.proofs.Bare.{bare-on, bare-not}
 use Rattle.engine.proofs.Closing.{order-stopped, order-refused, order-sent}
 use Rattle.engine.proofs.ConnectionEngine.close.Statement.{statement}
 use Rattle.engine.proofs.ConnectionEngine.close.Tie as tie
@@ -34,7 +37,7 @@ same-length : tie.Need-same-length
 same-length c = search needs
 
 returns : tie.Need-returns
-returns c = search (order-stopped, needs)
+returns c = search (order-stopped, bare-on, needs)
 
 sub-send-last : tie.Need-sub-send-last
 sub-send-last c = search needs
@@ -52,22 +55,24 @@ gone-out-requires-2 : tie.Need-gone-out-requires-2
 gone-out-requires-2 c κs = search needs
 
 returns-2 : tie.Need-returns-2
-returns-2 c = search (order-refused, needs)
+returns-2 c = search (order-refused, bare-not, needs)
 
 same-length-2 : tie.Need-same-length-2
 same-length-2 c = search needs
 
 returns-3 : tie.Need-returns-3
-returns-3 c =
-    order-sent _ _ _ _ _
-    (c .before .before .before .before .before .before .before .before .before .before .before .before .before .before .before .before .before .before .before .before .error-fine .ensures) _
-    (c .before .before .before .before .before .before .before .before .before .before .before .before .before .before .before .before .before .before .before .frames-to-send .ensures) _
-    (c .before .before .before .before .before .before .before .before .before .before .before .before .before .before .before .before .before .frames2 .given .1) _ _
-    (c .before .before .before .before .before .before .before .before .before .before .before .before .before .send-waiting .ensures) _ _
-    (c .before .before .before .before .before .out3 .given .0) _ _ _
-    (c .before .before .before .before .before .before .before .before .enum-told .given .1)
-    (c .before .before .before .before .before .before .send-last .ensures)
-    (c .before .before .gone-out2 .ensures)
+returns-3 c = (
+  order-sent _ _ _ _ _
+      (c .before .before .before .before .before .before .before .before .before .before .before .before .before .before .before .before .before .before .before .before .error-fine .ensures) _
+      (c .before .before .before .before .before .before .before .before .before .before .before .before .before .before .before .before .before .before .before .frames-to-send .ensures) _
+      (c .before .before .before .before .before .before .before .before .before .before .before .before .before .before .before .before .before .frames2 .given .1) _ _
+      (c .before .before .before .before .before .before .before .before .before .before .before .before .before .send-waiting .ensures) _ _
+      (c .before .before .before .before .before .out3 .given .0) _ _ _
+      (c .before .before .before .before .before .before .before .before .enum-told .given .1)
+      (c .before .before .before .before .before .before .send-last .ensures)
+      (c .before .before .gone-out2 .ensures),
+  search (bare-on, needs),
+)
 
 pub close-spec : {M : Type 1} → statement M
 close-spec =

@@ -1,3 +1,5 @@
+-- `frames_to_send`: 9, 8, 20, and what the reader of the waiting frames says.
+-- Assumes nothing.
 use borrow.Author.Needs.{needs}
 use Rattle.engine.proofs.Closing.{ordered-9, ordered-8, ordered-20, ordered-frames}
 use Rattle.engine.proofs.ConnectionEngine.frames_to_send.Statement.{statement}

@@ -1,3 +1,5 @@
+-- `is_ending`: a law for each return.
+-- Assumes nothing.
 use borrow.Author.Needs.{needs}
 use Rattle.engine.proofs.Phases.{ends-not, ends}
 use Rattle.engine.proofs.ConnectionEngine.is_ending.Statement.{statement}

@@ -1,3 +1,5 @@
+-- `is_stopped`: a law for each return.
+-- Assumes nothing.
 use borrow.Author.Needs.{needs}
 use Rattle.engine.proofs.Incoming.{stops, stops-not}
 use Rattle.engine.proofs.ConnectionEngine.is_stopped.Statement.{statement}

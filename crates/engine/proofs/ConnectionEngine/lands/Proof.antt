@@ -1,3 +1,5 @@
+-- `lands`: the Close is awaited, answered, or neither.
+-- Assumes nothing.
 use borrow.Author.Needs.{needs}
 use Rattle.engine.proofs.Taking.{took-awaiting, took-answered, took-read}
 use Rattle.engine.proofs.ConnectionEngine.lands.Statement.{statement}

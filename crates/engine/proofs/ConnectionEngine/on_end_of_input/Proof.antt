@@ -1,4 +1,7 @@
+-- `on_end_of_input`: 9, and then a law for each phase.
+-- Assumes nothing.
 use borrow.Author.Needs.{needs}
+use Rattle.engine.proofs.Bare.{bare-on, bare-not}
 use Rattle.engine.proofs.Landing.{input-9, input-20, input-awaiting, input-running}
 use Rattle.engine.proofs.ConnectionEngine.on_end_of_input.Statement.{statement}
 use Rattle.engine.proofs.ConnectionEngine.on_end_of_input.Tie as tie
@@ -7,7 +10,7 @@ not-handled-requires : tie.Need-not-handled-requires
 not-handled-requires c κs = search needs
 
 returns : tie.Need-returns
-returns c = search (input-9, needs)
+returns c = search (input-9, bare-not, needs)
 
 enum-told : tie.Need-enum-told
 enum-told c = search needs
@@ -31,16 +34,16 @@ handled-requires-2 : tie.Need-handled-requires-2
 handled-requires-2 c κs = search needs
 
 returns-2 : tie.Need-returns-2
-returns-2 c = search (input-20, needs)
+returns-2 c = search (input-20, bare-not, needs)
 
 returns-3 : tie.Need-returns-3
-returns-3 c = search (input-awaiting, needs)
+returns-3 c = search (input-awaiting, bare-on, needs)
 
 same-length : tie.Need-same-length
 same-length c = search needs
 
 returns-4 : tie.Need-returns-4
-returns-4 c = search (input-running, needs)
+returns-4 c = search (input-running, bare-on, needs)
 
 pub on-end-of-input-spec : {M : Type 1} → statement M
 on-end-of-input-spec =

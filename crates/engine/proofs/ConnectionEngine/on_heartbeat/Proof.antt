@@ -1,4 +1,7 @@
+-- `on_heartbeat`: 9, 20, what the connection refuses, and what it does.
+-- Assumes nothing.
 use borrow.Author.Needs.{needs}
+use Rattle.engine.proofs.Bare.{bare-on, bare-not}
 use Rattle.engine.proofs.Well.{tick-9, tick-20, tick-refused, tick-done}
 use Rattle.engine.proofs.ConnectionEngine.on_heartbeat.Statement.{statement}
 use Rattle.engine.proofs.ConnectionEngine.on_heartbeat.Tie as tie
@@ -7,7 +10,7 @@ no-heartbeat-requires : tie.Need-no-heartbeat-requires
 no-heartbeat-requires c κs = search needs
 
 returns : tie.Need-returns
-returns c = search (tick-9, needs)
+returns c = search (tick-9, bare-not, needs)
 
 is-ending-requires : tie.Need-is-ending-requires
 is-ending-requires c κs = search needs
@@ -16,7 +19,7 @@ no-heartbeat-requires-2 : tie.Need-no-heartbeat-requires-2
 no-heartbeat-requires-2 c κs = search needs
 
 returns-2 : tie.Need-returns-2
-returns-2 c = search (tick-20, needs)
+returns-2 c = search (tick-20, bare-not, needs)
 
 tick-requires : tie.Need-tick-requires
 tick-requires c κs = search needs
@@ -31,7 +34,7 @@ same-length : tie.Need-same-length
 same-length c = search needs
 
 returns-3 : tie.Need-returns-3
-returns-3 c = search (tick-refused, needs)
+returns-3 c = search (tick-refused, bare-not, needs)
 
 settle-requires : tie.Need-settle-requires
 settle-requires c κs = search needs
@@ -43,7 +46,7 @@ same-length-2 : tie.Need-same-length-2
 same-length-2 c = search needs
 
 returns-4 : tie.Need-returns-4
-returns-4 c = search (tick-done, needs)
+returns-4 c = search (tick-done, bare-on, needs)
 
 pub on-heartbeat-spec : {M : Type 1} → statement M
 on-heartbeat-spec =

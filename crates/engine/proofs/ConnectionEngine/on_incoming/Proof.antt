@@ -1,4 +1,7 @@
+-- `on_incoming`: 9, 20, 1, the refusal of the waiting frames, and where the frame leads.
+-- Assumes nothing.
 use borrow.Author.Needs.{needs}
+use Rattle.engine.proofs.Bare.{bare-on, bare-not}
 use Rattle.engine.proofs.Taking.{incoming-9, incoming-20, incoming-1, incoming-waiting, incoming-done}
 use Rattle.engine.proofs.ConnectionEngine.on_incoming.Statement.{statement}
 use Rattle.engine.proofs.ConnectionEngine.on_incoming.Tie as tie
@@ -10,7 +13,7 @@ not-taken-requires : tie.Need-not-taken-requires
 not-taken-requires c κs = search needs
 
 returns : tie.Need-returns
-returns c = search (incoming-9, needs)
+returns c = search (incoming-9, bare-not, needs)
 
 is-stopped-requires : tie.Need-is-stopped-requires
 is-stopped-requires c κs = search needs
@@ -19,7 +22,7 @@ not-taken-requires-2 : tie.Need-not-taken-requires-2
 not-taken-requires-2 c κs = search needs
 
 returns-2 : tie.Need-returns-2
-returns-2 c = search (incoming-20, needs)
+returns-2 c = search (incoming-20, bare-not, needs)
 
 receive-frame-requires : tie.Need-receive-frame-requires
 receive-frame-requires c κs = search needs
@@ -31,7 +34,7 @@ not-taken-requires-3 : tie.Need-not-taken-requires-3
 not-taken-requires-3 c κs = search needs
 
 returns-3 : tie.Need-returns-3
-returns-3 c = search (incoming-1, needs)
+returns-3 c = search (incoming-1, bare-not, needs)
 
 channel-max-requires : tie.Need-channel-max-requires
 channel-max-requires c κs = search needs
@@ -55,7 +58,7 @@ not-taken-requires-4 : tie.Need-not-taken-requires-4
 not-taken-requires-4 c κs = search needs
 
 returns-4 : tie.Need-returns-4
-returns-4 c = search (incoming-waiting, needs)
+returns-4 c = search (incoming-waiting, bare-not, needs)
 
 lands-requires : tie.Need-lands-requires
 lands-requires c κs = search needs
@@ -79,10 +82,12 @@ returns-5 c =
     let m = f .before .before .before in
     let r = m .before .before in
     let i = r .before .before .before in
-    let k = i .before .before in
-    incoming-done _ _ _ _ _ _ (k .lacks-room .ensures) (i .before .if1 .left) _ (i .is-stopped .ensures) (r .before .before .if2 .left) _ _ (r .receive-frame .ensures) _ (m .is-missing .ensures)
-    (f .before .before .if3 .left) _ _ (f .before .channel-max .ensures) (f .session-frames .ensures) _ _ _ _ _ _ (l .before .before .before .frames .given .1) (l .lands .ensures)
-    (c .before .before .frame-size .ensures) (c .before .consumed-by .ensures) (c .taken .ensures)
+    let k = i .before .before in (
+      incoming-done _ _ _ _ _ _ (k .lacks-room .ensures) (i .before .if1 .left) _ (i .is-stopped .ensures) (r .before .before .if2 .left) _ _ (r .receive-frame .ensures) _ (m .is-missing .ensures)
+          (f .before .before .if3 .left) _ _ (f .before .channel-max .ensures) (f .session-frames .ensures) _ _ _ _ _ _ (l .before .before .before .frames .given .1) (l .lands .ensures)
+          (c .before .before .frame-size .ensures) (c .before .consumed-by .ensures) (c .taken .ensures),
+      search (bare-on, needs),
+    )
 
 pub on-incoming-spec : {M : Type 1} → statement M
 on-incoming-spec =

@@ -1,4 +1,7 @@
+-- `on_not_delivered`: 9, 20, and the error path.
+-- Assumes nothing.
 use borrow.Author.Needs.{needs}
+use Rattle.engine.proofs.Bare.{bare-on, bare-not}
 use Rattle.engine.proofs.Landing.{not-delivered-9, not-delivered-20, not-delivered-done}
 use Rattle.engine.proofs.ConnectionEngine.on_not_delivered.Statement.{statement}
 use Rattle.engine.proofs.ConnectionEngine.on_not_delivered.Tie as tie
@@ -7,7 +10,7 @@ not-handled-requires : tie.Need-not-handled-requires
 not-handled-requires c κs = search needs
 
 returns : tie.Need-returns
-returns c = search (not-delivered-9, needs)
+returns c = search (not-delivered-9, bare-not, needs)
 
 is-ending-requires : tie.Need-is-ending-requires
 is-ending-requires c κs = search needs
@@ -16,7 +19,7 @@ not-handled-requires-2 : tie.Need-not-handled-requires-2
 not-handled-requires-2 c κs = search needs
 
 returns-2 : tie.Need-returns-2
-returns-2 c = search (not-delivered-20, needs)
+returns-2 c = search (not-delivered-20, bare-not, needs)
 
 role-requires : tie.Need-role-requires
 role-requires c κs = search needs
@@ -34,7 +37,7 @@ same-length : tie.Need-same-length
 same-length c = search needs
 
 returns-3 : tie.Need-returns-3
-returns-3 c = search (not-delivered-done, needs)
+returns-3 c = search (not-delivered-done, bare-on, needs)
 
 pub on-not-delivered-spec : {M : Type 1} → statement M
 on-not-delivered-spec =

@@ -1,4 +1,7 @@
+-- `on_outgoing_session_frame`: 9, 20, the refusals of the input, the frame written, and the error path.
+-- Assumes nothing.
 use borrow.Author.Needs.{needs}
+use Rattle.engine.proofs.Bare.{bare-on, bare-not, bare-landed}
 use Rattle.engine.proofs.Outgoing.{outgoing-9, outgoing-20, outgoing-input, outgoing-done, outgoing-failing}
 use Rattle.engine.proofs.ConnectionEngine.on_outgoing_session_frame.Statement.{statement}
 use Rattle.engine.proofs.ConnectionEngine.on_outgoing_session_frame.Tie as tie
@@ -10,7 +13,7 @@ not-outgoing-requires : tie.Need-not-outgoing-requires
 not-outgoing-requires c κs = search needs
 
 returns : tie.Need-returns
-returns c = search (outgoing-9, needs)
+returns c = search (outgoing-9, bare-not, needs)
 
 is-ending-requires : tie.Need-is-ending-requires
 is-ending-requires c κs = search needs
@@ -19,7 +22,7 @@ not-outgoing-requires-2 : tie.Need-not-outgoing-requires-2
 not-outgoing-requires-2 c κs = search needs
 
 returns-2 : tie.Need-returns-2
-returns-2 c = search (outgoing-20, needs)
+returns-2 c = search (outgoing-20, bare-not, needs)
 
 send-session-frame-requires : tie.Need-send-session-frame-requires
 send-session-frame-requires c κs = search needs
@@ -43,7 +46,7 @@ same-length : tie.Need-same-length
 same-length c = search needs
 
 returns-3 : tie.Need-returns-3
-returns-3 c = search (outgoing-input, needs)
+returns-3 c = search (outgoing-input, bare-not, needs)
 
 outgoing-error-requires : tie.Need-outgoing-error-requires
 outgoing-error-requires c κs = search needs
@@ -60,9 +63,11 @@ same-length-2 c = search needs
 returns-4 : tie.Need-returns-4
 returns-4 c =
     let s = c .before .before .before .before .before .before .before .before in
-    let i = s .before .before .before .before in
-    outgoing-done _ _ _ _ (i .before .before .lacks-room .ensures) _ (i .is-ending .ensures) (i .before .if1 .left) (s .before .before .before .if2 .left) _ _ _ _ _ _
-    (s .send-session-frame .ensures) (c .before .before .before .answer .given .1) (c .before .settle .ensures) (c .running .ensures)
+    let i = s .before .before .before .before in (
+      outgoing-done _ _ _ _ (i .before .before .lacks-room .ensures) _ (i .is-ending .ensures) (i .before .if1 .left) (s .before .before .before .if2 .left) _ _ _ _ _ _
+          (s .send-session-frame .ensures) (c .before .before .before .answer .given .1) (c .before .settle .ensures) (c .running .ensures),
+      search (bare-on, needs),
+    )
 
 same-length-3 : tie.Need-same-length-3
 same-length-3 c = search needs
@@ -71,10 +76,12 @@ returns-5 : tie.Need-returns-5
 returns-5 c =
     let o = c .before .before .before in
     let s = o .before .before .before .before .before .before .before .before .before .before in
-    let i = s .before .before .before .before in
-    outgoing-failing _ _ _ _ (i .before .before .lacks-room .ensures) _ (i .is-ending .ensures) (i .before .if1 .left) (s .before .before .before .if2 .left) _ _ _ _ _ _
-    (o .before .before .outgoing-error .result) _
-    (s .send-session-frame .ensures) (o .before .before .before .before .before .answer2 .given .1) (search needs) (o .before .before .outgoing-error .ensures) (o .on-error .ensures) (c .landed-out .ensures)
+    let i = s .before .before .before .before in (
+      outgoing-failing _ _ _ _ (i .before .before .lacks-room .ensures) _ (i .is-ending .ensures) (i .before .if1 .left) (s .before .before .before .if2 .left) _ _ _ _ _ _
+          (o .before .before .outgoing-error .result) _
+          (s .send-session-frame .ensures) (o .before .before .before .before .before .answer2 .given .1) (search needs) (o .before .before .outgoing-error .ensures) (o .on-error .ensures) (c .landed-out .ensures),
+      search (bare-landed, needs),
+    )
 
 pub on-outgoing-session-frame-spec : {M : Type 1} → statement M
 on-outgoing-session-frame-spec =

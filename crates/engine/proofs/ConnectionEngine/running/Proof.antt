@@ -1,3 +1,5 @@
+-- `running`: a law for each phase.
+-- Assumes nothing.
 use borrow.Author.Needs.{needs}
 use Rattle.engine.proofs.Phases.{goes-running, goes-awaiting, goes-stopped}
 use Rattle.engine.proofs.ConnectionEngine.running.Statement.{statement}

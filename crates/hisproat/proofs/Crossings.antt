@@ -1,0 +1,120 @@
+-- From what the engine promises to what a call from C comes to.
+-- Assumes nothing.
+use mathlib.Core.Path.{_≡_, refl, sym, _∙_, ap, ap₂, subst}
+use mathlib.Core.Bool.{Bool, true, false, cond, not, _&&_}
+use mathlib.Core.List.{List, [], _∷_, _++_, append-nil}
+use mathlib.Core.Option.{Option, none, some}
+use Prim.Native.Nat.{ℕ, _+_, _≤_, _<_}
+use native.Mathlib.Omega.{arith}
+use lib.Dec.{leb, eqb}
+use lib.ListN.{length, drop}
+use lib.Seq.{drop-length}
+use borrow.Author.Tests.{le-leb, lt-leb, eq-eqb, ne-eqb, not-true, not-false}
+use Rattle.octets.specs.Octets.{put}
+use Rattle.octets.specs.Verdict.{Verdict, refuse, accept}
+use Rattle.octets.proofs.Laws.{put-front}
+use Rattle.frame_encoder.specs.Frames.{Settings}
+use Rattle.connection_model.specs.Connection.{Role, Answer}
+use Rattle.frame_encoder.specs.Answers.{errorText}
+use Rattle.connection.proofs.Bytes.{length-sound}
+use Rattle.engine_model.specs.Engine.{Engine, Event, closeOrder, notDelivered, Reply, Seen, seen, next, lent}
+use Rattle.engine.specs.declared.ConnectionEngine.{ConnectionEngine}
+use Rattle.engine.specs.Answers.{roleOf, settingsOf, viewOf, Sound, replySays}
+use Rattle.engine.specs.Promises.{Meets, Does}
+use Rattle.engine_bytes.specs.declared.EngineRead.{EngineRead}
+use Rattle.engine_bytes.specs.Bytes.{engineBytes, StandFor}
+use Rattle.engine_bytes.specs.Promises.{ReadsEngine}
+use Rattle.engine_bytes.proofs.Laws.{engine-length, stand-length, stand-once}
+use Rattle.hisproat.specs.declared.answers.Done.{Done}
+use Rattle.hisproat.specs.Crossing.{Crossing, crossing, returnedBy, answerAfter, saw, crossed, Crosses, Told, tells, Reads}
+use Rattle.hisproat.specs.Promises.{stateAfter, Amounts, Finishes}
+
+-- ---- a whole buffer
+
+pub put-whole : (s bytes : List ℕ) → length bytes ≡ length s → put s 0 bytes ≡ bytes
+put-whole s bytes l =
+    put-front s bytes (omega arith) ∙ ap (λ n. bytes ++ drop n s) l ∙ ap (λ t. bytes ++ t) (drop-length s) ∙ append-nil bytes
+
+-- a sound engine's bytes are 3,102
+pub sound-length : (e : ConnectionEngine) → Sound e → length (engineBytes (roleOf e) (settingsOf e) (viewOf e)) ≡ 3102
+sound-length e z = engine-length (roleOf e) (settingsOf e) (viewOf e) (length-sound (e .connection) z)
+
+-- ---- bytes that stand for no engine
+
+module _ (s a : List ℕ) (read : EngineRead) (reads : ReadsEngine s read) where
+  pub crosses-broken : (event : Event) → not (read .fine) ≡ true → Crosses event s a (crossing 8 s a (lent event))
+  crosses-broken event f = record { stands = λ role S e z. absurd (reads .no (not-true (read .fine) f) role S e z); broken = λ n. refl }
+
+  crossed-short : (role : Role) (S : Settings) (e : Engine) (event : Event) → length a < 42 → crossing 9 (engineBytes role S e) a (lent event) ≡ crossed role S e event a
+  unfolding crossed
+  crossed-short role S e event h =
+      sym (ap (λ b. cond b (saw (seen role S e event) (engineBytes role S (next role S e event)) a) (crossing 9 (engineBytes role S e) a (lent event))) (lt-leb 42 (length a) h))
+
+  crossed-long : (role : Role) (S : Settings) (e : Engine) (event : Event) → 42 ≤ length a → saw (seen role S e event) (engineBytes role S (next role S e event)) a ≡ crossed role S e event a
+  unfolding crossed
+  crossed-long role S e event h =
+      sym (ap (λ b. cond b (saw (seen role S e event) (engineBytes role S (next role S e event)) a) (crossing 9 (engineBytes role S e) a (lent event))) (le-leb 42 (length a) h))
+
+  -- ---- too short an answer
+
+  pub crosses-short : (event : Event) → not (read .fine) ≡ false → length a < 42 → Crosses event s a (crossing 9 s a (lent event))
+  crosses-short event f h = record {
+    stands = λ role S e z. ap (λ t. crossing 9 t a (lent event)) (z .are) ∙ crossed-short role S e event h;
+    broken = λ n. absurd (n _ _ _ (reads .yes (not-false (read .fine) f)));
+  }
+
+  -- ---- an event
+
+  module _ (event : Event) (was-fine : not (read .fine) ≡ false) (room : 42 ≤ length a) where
+    fine : read .fine ≡ true
+    fine = not-false (read .fine) was-fine
+
+    state-after : (reply : Verdict Reply) (out : List ℕ) (later : ConnectionEngine) → Does event (read .engine) reply out later
+        → stateAfter reply s later ≡ engineBytes (roleOf (read .engine)) (settingsOf (read .engine)) (next (roleOf (read .engine)) (settingsOf (read .engine)) (viewOf (read .engine)) event)
+    state-after (refuse j) out later d =
+        reads .yes fine .are
+        ∙ ap (engineBytes (roleOf (read .engine)) (settingsOf (read .engine))) (ap viewOf (sym (d .refused j refl .0)) ∙ d .meets (reads .sound) .leaves)
+    state-after (accept r) out later d =
+        let z = d .meets (reads .sound) .sound in
+        put-whole s (engineBytes (roleOf later) (settingsOf later) (viewOf later)) (sound-length later z ∙ sym (stand-length (reads .yes fine)))
+        ∙ ap (λ r. engineBytes r (settingsOf later) (viewOf later)) (d .same-role)
+        ∙ ap₂ (engineBytes (roleOf (read .engine))) (d .same-settings) (d .meets (reads .sound) .leaves)
+
+    crosses-as :
+        (reply : Verdict Reply) (out : List ℕ) (later : ConnectionEngine) (k : ℕ) (s′ a′ : List ℕ) → Does event (read .engine) reply out later
+        → k ≡ returnedBy reply → a′ ≡ answerAfter reply a → s′ ≡ stateAfter reply s later
+        → crossing k s′ a′ out ≡ crossed (roleOf (read .engine)) (settingsOf (read .engine)) (viewOf (read .engine)) event a
+    crosses-as reply out later k s′ a′ d n p q =
+        let m = d .meets (reads .sound) in
+        (λ i. crossing (n i) ((q ∙ state-after reply out later d) i) (p i) out)
+        ∙ ap (λ v. saw v (engineBytes (roleOf (read .engine)) (settingsOf (read .engine)) (next (roleOf (read .engine)) (settingsOf (read .engine)) (viewOf (read .engine)) event)) a) (m .draws)
+        ∙ crossed-long (roleOf (read .engine)) (settingsOf (read .engine)) (viewOf (read .engine)) event room
+
+    -- bytes stand for one engine only, so that what holds of the one that was read holds of any
+    all-stand : (c : Crossing) → c ≡ crossed (roleOf (read .engine)) (settingsOf (read .engine)) (viewOf (read .engine)) event a → Crosses event s a c
+    all-stand c e = record {
+      stands = λ role S x z.
+          let o = stand-once (reads .yes fine) z in
+          e ∙ (λ i. crossed (o .0 i) (o .1 i) (o .2 i) event a);
+      broken = λ n. absurd (n _ _ _ (reads .yes fine));
+    }
+
+    pub crosses :
+        (reply : Verdict Reply) (out : List ℕ) (later : ConnectionEngine) (v : Option (Verdict Answer)) (done : Done) (k : ℕ) (s′ a′ : List ℕ) → Does event (read .engine) reply out later
+        → Amounts done v reply later → Finishes done s a k s′ a′ → Crosses event s a (crossing k s′ a′ out)
+    crosses reply out later v done k s′ a′ d m f =
+        let z : Sound (done .engine) = subst Sound (sym (m .amounts-engine)) (d .meets (reads .sound) .sound) in
+        all-stand (crossing k s′ a′ out)
+        (crosses-as reply out later k s′ a′ d
+        (f .finishes-number v ∙ ap returnedBy (m .amounts-reply))
+        (f .finishes-answer v (m .amounts-inner) ∙ ap (λ r. answerAfter r a) (m .amounts-reply))
+        (f .finishes-state z v ∙ ap₂ (λ r e. stateAfter r s e) (m .amounts-reply) (m .amounts-engine)))
+
+-- ---- a flag that is handed over as a number
+
+module _ (b f : Bool) (same : b ≡ f) (before later : ConnectionEngine) (reply : Verdict Reply) (out : List ℕ) where
+  pub does-close : (condition description w o : List ℕ) → Does (closeOrder (some (errorText condition b description)) w o) before reply out later → Does (closeOrder (some (errorText condition f description)) w o) before reply out later
+  does-close condition description w o d = subst (λ x. Does (closeOrder (some (errorText condition x description)) w o) before reply out later) same d
+
+  pub does-undelivered : (o : List ℕ) → Does (notDelivered b o) before reply out later → Does (notDelivered f o) before reply out later
+  does-undelivered o d = subst (λ x. Does (notDelivered x o) before reply out later) same d

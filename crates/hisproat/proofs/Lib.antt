@@ -1,0 +1,6 @@
+-- What the proofs of several functions use.
+pub mod Telling
+pub mod Laying
+pub mod Crossings
+pub mod Starting
+pub mod Readings

@@ -1,0 +1,36 @@
+use borrow.Author.Needs.{needs}
+use Rattle.hisproat.proofs.Telling.{channel-inner, no-channel-inner}
+use Rattle.hisproat.proofs.answers.allocate_inner.Statement.{statement}
+use Rattle.hisproat.proofs.answers.allocate_inner.Tie as tie
+use Rattle.hisproat.proofs.answers.allocate_inner.Reads as reads
+use Rattle.hisproat.proofs.answers.allocate_inner.Lts as lts
+use Rattle.hisproat.proofs.answers.plain.Reads as plain-reads
+
+-- src/answers.rt:127:33
+enum-known-answer : tie.Need-enum-known-answer
+enum-known-answer c = search needs
+
+-- src/answers.rt:130:22
+cast-t5 : tie.Need-cast-t5
+cast-t5 c = search needs
+
+-- src/answers.rt:135:33
+enum-known-answer-2 : tie.Need-enum-known-answer-2
+enum-known-answer-2 c = search needs
+
+-- src/answers.rt:135:39
+plain-requires : tie.Need-plain-requires
+plain-requires c κs = search needs
+
+-- src/answers.rt:123:1
+returns : tie.Need-returns
+returns c = search (channel-inner, needs)
+
+-- src/answers.rt:123:1
+returns-2 : tie.Need-returns-2
+returns-2 c = search (no-channel-inner, needs)
+
+pub allocate-inner-spec : {M : Type 1} → statement M
+allocate-inner-spec =
+    tie.close
+    (tie.spec enum-known-answer cast-t5 enum-known-answer-2 plain-requires returns returns-2)

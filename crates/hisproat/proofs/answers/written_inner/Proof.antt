@@ -1,0 +1,36 @@
+use borrow.Author.Needs.{needs}
+use Rattle.hisproat.proofs.Telling.{wrote-inner, unwritten-inner}
+use Rattle.hisproat.proofs.answers.written_inner.Statement.{statement}
+use Rattle.hisproat.proofs.answers.written_inner.Tie as tie
+use Rattle.hisproat.proofs.answers.written_inner.Reads as reads
+use Rattle.hisproat.proofs.answers.written_inner.Lts as lts
+use Rattle.hisproat.proofs.answers.plain.Reads as plain-reads
+
+-- src/answers.rt:98:30
+enum-told : tie.Need-enum-told
+enum-told c = search needs
+
+-- src/answers.rt:98:30
+plain-requires : tie.Need-plain-requires
+plain-requires c κs = search needs
+
+-- src/answers.rt:99:26
+enum-known-answer : tie.Need-enum-known-answer
+enum-known-answer c = search needs
+
+-- src/answers.rt:99:32
+plain-requires-2 : tie.Need-plain-requires-2
+plain-requires-2 c κs = search needs
+
+-- src/answers.rt:94:1
+returns : tie.Need-returns
+returns c = search (wrote-inner, needs)
+
+-- src/answers.rt:94:1
+returns-2 : tie.Need-returns-2
+returns-2 c = search (unwritten-inner, needs)
+
+pub written-inner-spec : {M : Type 1} → statement M
+written-inner-spec =
+    tie.close
+    (tie.spec enum-told plain-requires enum-known-answer plain-requires-2 returns returns-2)

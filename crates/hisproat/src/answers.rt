@@ -1,0 +1,428 @@
+// What came of an event, in numbers, and how it is laid into the lent answer.
+use crate::ANSWER_SIZE;
+use channels::Held;
+use connection::AllocateAnswer;
+use connection::HeaderAnswer;
+use connection::TickAnswer;
+use endpoint::FrameAnswer;
+use engine::ConnectionEngine;
+use engine::OnAllocate;
+use engine::OnDeallocate;
+use engine::OnError;
+use engine::OnHeartbeat;
+use engine::OnIncoming;
+use engine::OnOutgoing;
+use engine::OpeningReceived;
+use engine::OpeningSent;
+use engine::Running;
+use octets::Written;
+use octets::put_number;
+ghost use mathlib.Core.Path.{_≡_};
+ghost use mathlib.Core.List.{_++_};
+ghost use mathlib.Core.Option.{none, some};
+ghost use Rattle.octets.specs.Octets.{bytesOf, put};
+ghost use Rattle.connection.specs.View.{headerSays, allocateSays, tickSays};
+ghost use Rattle.endpoint.specs.Answers.{answerSays, sentSays, deallocateSays};
+ghost use Rattle.engine.specs.Answers.{replySays, openingSays, sentCount, tickCount};
+ghost use Rattle.hisproat.specs.Answers.{inner, innerOf, innerBytes};
+ghost use Rattle.channels.specs.Numbers.{one};
+ghost use Rattle.hisproat.specs.Promises.{innerSays, HeaderRuns, Amounts, Lays, Finishes};
+
+// What the connection's call inside an event answered.
+const KIND_NONE: u8 = 0;
+
+const KIND_REFUSED: u8 = 1;
+
+const KIND_WROTE: u8 = 2;
+
+const KIND_END: u8 = 3;
+
+const KIND_HEADER: u8 = 4;
+
+const KIND_OTHER_PROTOCOL: u8 = 5;
+
+const KIND_NOTHING: u8 = 6;
+
+const KIND_OPENED: u8 = 7;
+
+const KIND_CLOSED: u8 = 8;
+
+const KIND_FORWARD: u8 = 9;
+
+const KIND_BEGAN: u8 = 10;
+
+const KIND_CHANNEL: u8 = 11;
+
+const KIND_FREED: u8 = 12;
+
+// The code of a Begin.
+const BEGIN: u8 = 17;
+
+// What the call inside answered, in numbers. What a kind does not have is zero.
+pub struct Inner {
+    kind: u8,
+    detail: u8,
+    channel: u16,
+    number: u32,
+    from: usize,
+    len: usize,
+}
+
+// What came of an event.
+pub struct Done {
+    running: Running,
+    consumed: usize,
+    written: usize,
+    inner: Inner,
+    engine: ConnectionEngine,
+}
+
+// An answer of a kind, with a detail and nothing else.
+fn plain(kind: u8, detail: u8) -> Inner
+    ensures { λ r. ⌜ innerSays r ≡ inner kind detail 0 0 0 0 ⌝ }
+{
+    Inner {
+        kind,
+        detail,
+        channel: 0,
+        number: 0,
+        from: 0,
+        len: 0,
+    }
+}
+
+fn written_inner(answer: Written) -> Inner
+    ensures { λ r. ⌜ innerSays r ≡ innerOf (some (sentSays answer)) ⌝ }
+{
+    match answer {
+        Written::Bytes(_) => plain(KIND_WROTE, 0),
+        Written::Refused(k) => plain(KIND_REFUSED, k),
+    }
+}
+
+fn header_inner(answer: HeaderAnswer) -> Inner
+    ensures { λ r. ⌜ innerSays r ≡ innerOf (some (headerSays answer)) ⌝ }
+{
+    match answer {
+        HeaderAnswer::Amqp(_) => plain(KIND_HEADER, 0),
+        HeaderAnswer::OtherProtocol(_) => plain(KIND_OTHER_PROTOCOL, 0),
+        HeaderAnswer::Refused(k) => plain(KIND_REFUSED, k),
+    }
+}
+
+fn tick_inner(answer: TickAnswer) -> Inner
+    ensures { λ r. ⌜ innerSays r ≡ innerOf (some (tickSays answer)) ⌝ }
+{
+    match answer {
+        TickAnswer::Wrote(_) => plain(KIND_WROTE, 0),
+        TickAnswer::Stop => plain(KIND_END, 0),
+        TickAnswer::Refused(k) => plain(KIND_REFUSED, k),
+    }
+}
+
+fn allocate_inner(answer: AllocateAnswer) -> Inner
+    ensures { λ r. ⌜ innerSays r ≡ innerOf (some (allocateSays answer)) ⌝ }
+{
+    match answer {
+        AllocateAnswer::Channel(channel) => Inner {
+            kind: KIND_CHANNEL,
+            detail: 0,
+            channel: channel as u16,
+            number: 0,
+            from: 0,
+            len: 0,
+        },
+        AllocateAnswer::Refused(k) => plain(KIND_REFUSED, k),
+    }
+}
+
+fn deallocate_inner(answer: Held) -> Inner
+    ensures { λ r. ⌜ innerSays r ≡ innerOf (some (deallocateSays answer)) ⌝ }
+{
+    match answer {
+        Held::Handle(handle) => numbered(KIND_FREED, handle),
+        Held::Nothing => plain(KIND_REFUSED, 26),
+    }
+}
+
+// An answer of a kind, with a number and nothing else.
+fn numbered(kind: u8, number: u32) -> Inner
+    ensures { λ r. ⌜ innerSays r ≡ inner kind 0 0 number 0 0 ⌝ }
+{
+    Inner {
+        kind,
+        detail: 0,
+        channel: 0,
+        number,
+        from: 0,
+        len: 0,
+    }
+}
+
+fn flag(b: bool) -> u8
+    ensures { λ r. ⌜ r ≡ one b ⌝ }
+{
+    if b {
+        return 1;
+    }
+    0
+}
+
+fn frame_inner(answer: FrameAnswer) -> Inner
+    ensures { λ r. ⌜ innerSays r ≡ innerOf (some (answerSays answer)) ⌝ }
+{
+    match answer {
+        FrameAnswer::NothingToDo { consumed: _ } => plain(KIND_NOTHING, 0),
+        FrameAnswer::Opened {
+            consumed: _,
+            idle_time_out,
+        } => numbered(KIND_OPENED, idle_time_out),
+        FrameAnswer::Closed {
+            consumed: _,
+            with_error,
+        } => plain(KIND_CLOSED, flag(with_error)),
+        FrameAnswer::Forward {
+            consumed: _,
+            code,
+            handle,
+            from,
+            len,
+        } => body(KIND_FORWARD, code, 0, handle, from, len),
+        FrameAnswer::Began {
+            consumed: _,
+            channel,
+            handle,
+            from,
+            len,
+        } => body(KIND_BEGAN, BEGIN, channel, handle, from, len),
+        FrameAnswer::Refused(k) => plain(KIND_REFUSED, k),
+    }
+}
+
+// A body that goes on to a session.
+fn body(kind: u8, code: u8, channel: u16, handle: u32, from: usize, len: usize) -> Inner
+    ensures { λ r. ⌜ innerSays r ≡ inner kind code channel handle from len ⌝ }
+{
+    Inner {
+        kind,
+        detail: code,
+        channel,
+        number: handle,
+        from,
+        len,
+    }
+}
+
+// What a call that opens the connection and writes came to.
+pub fn opening_sent(on: OpeningSent) -> Done
+    ensures { λ r. ⌜ Amounts r (some (sentSays (on .answer))) (openingSays 0 (sentCount (on .answer)) (sentSays (on .answer))) (on .engine) ⌝ }
+{
+    let answer = on.answer;
+    let engine = on.engine;
+    let inner = written_inner(answer);
+    match answer {
+        Written::Bytes(n) => Done {
+            running: Running::Continue,
+            consumed: 0,
+            written: n,
+            inner,
+            engine,
+        },
+        Written::Refused(k) => Done {
+            running: Running::Refused(k),
+            consumed: 0,
+            written: 0,
+            inner,
+            engine,
+        },
+    }
+}
+
+// Whether a header that came was refused.
+fn header_running(answer: HeaderAnswer) -> Running
+    ensures { λ r. ⌜ HeaderRuns answer r ⌝ }
+{
+    match answer {
+        HeaderAnswer::Amqp(_) => Running::Continue,
+        HeaderAnswer::OtherProtocol(_) => Running::Continue,
+        HeaderAnswer::Refused(k) => Running::Refused(k),
+    }
+}
+
+// What a header that came led to.
+pub fn opening_received(on: OpeningReceived) -> Done
+    ensures { λ r. ⌜ Amounts r (some (headerSays (on .answer))) (openingSays 8 0 (headerSays (on .answer))) (on .engine) ⌝ }
+{
+    let answer = on.answer;
+    let engine = on.engine;
+    Done {
+        running: header_running(answer),
+        consumed: 8,
+        written: 0,
+        inner: header_inner(answer),
+        engine,
+    }
+}
+
+pub fn allocated(on: OnAllocate) -> Done
+    ensures { λ r. ⌜ Amounts r (some (allocateSays (on .answer))) (replySays (on .running) 0 0 (some (allocateSays (on .answer)))) (on .engine) ⌝ }
+{
+    let running = on.running;
+    let answer = on.answer;
+    let engine = on.engine;
+    Done {
+        running,
+        consumed: 0,
+        written: 0,
+        inner: allocate_inner(answer),
+        engine,
+    }
+}
+
+pub fn deallocated(on: OnDeallocate) -> Done
+    ensures { λ r. ⌜ Amounts r (some (deallocateSays (on .answer))) (replySays (on .running) 0 0 (some (deallocateSays (on .answer)))) (on .engine) ⌝ }
+{
+    let running = on.running;
+    let answer = on.answer;
+    let engine = on.engine;
+    Done {
+        running,
+        consumed: 0,
+        written: 0,
+        inner: deallocate_inner(answer),
+        engine,
+    }
+}
+
+// How many bytes a tick wrote.
+fn tick_count(answer: TickAnswer) -> usize
+    ensures { λ r. ⌜ r ≡ tickCount answer ⌝ }
+{
+    match answer {
+        TickAnswer::Wrote(n) => n,
+        TickAnswer::Stop => 0,
+        TickAnswer::Refused(_) => 0,
+    }
+}
+
+pub fn ticked(on: OnHeartbeat) -> Done
+    ensures { λ r. ⌜ Amounts r (some (tickSays (on .answer))) (replySays (on .running) 0 (tickCount (on .answer)) (some (tickSays (on .answer)))) (on .engine) ⌝ }
+{
+    let answer = on.answer;
+    let running = on.running;
+    let engine = on.engine;
+    Done {
+        running,
+        consumed: 0,
+        written: tick_count(answer),
+        inner: tick_inner(answer),
+        engine,
+    }
+}
+
+pub fn sent(on: OnOutgoing) -> Done
+    ensures { λ r. ⌜ Amounts r (some (sentSays (on .answer))) (replySays (on .running) 0 (on .written) (some (sentSays (on .answer)))) (on .engine) ⌝ }
+{
+    let running = on.running;
+    let answer = on.answer;
+    let engine = on.engine;
+    Done {
+        running,
+        consumed: 0,
+        written: on.written,
+        inner: written_inner(answer),
+        engine,
+    }
+}
+
+pub fn received(on: OnIncoming) -> Done
+    ensures { λ r. ⌜ Amounts r (some (answerSays (on .answer))) (replySays (on .running) (on .consumed) (on .written) (some (answerSays (on .answer)))) (on .engine) ⌝ }
+{
+    let running = on.running;
+    let answer = on.answer;
+    let engine = on.engine;
+    Done {
+        running,
+        consumed: on.consumed,
+        written: on.written,
+        inner: frame_inner(answer),
+        engine,
+    }
+}
+
+// What the error path came to: no call of the connection is told of.
+pub fn handled(on: OnError) -> Done
+    ensures { λ r. ⌜ Amounts r none (replySays (on .running) 0 (on .written) none) (on .engine) ⌝ }
+{
+    let running = on.running;
+    let engine = on.engine;
+    Done {
+        running,
+        consumed: 0,
+        written: on.written,
+        inner: plain(KIND_NONE, 0),
+        engine,
+    }
+}
+
+// Lays what the call inside answered into the answer.
+fn put_inner(inner: Inner, answer: &mut [u8])
+    ensures { λ _. ⌜ now (answer .exit) ≡ put (now (answer .entry)) 2 (innerBytes (innerSays inner)) ⌝ }
+{
+    if answer.len() < 26 {
+        return;
+    }
+    put_number(answer, 2, 1, inner.kind as u64);
+    put_number(answer, 3, 1, inner.detail as u64);
+    put_number(answer, 4, 2, inner.channel as u64);
+    put_number(answer, 6, 4, inner.number as u64);
+    put_number(answer, 10, 8, inner.from as u64);
+    put_number(answer, 18, 8, inner.len as u64);
+}
+
+// Lays an answer: whether the engine stopped and how it ended, what the call inside answered, and how many bytes were consumed and written.
+fn put_answer(stopped: u8, outcome: u8, done: Done, answer: &mut [u8])
+    ensures { λ _. ⌜ now (answer .exit) ≡ put (now (answer .entry)) 0 (bytesOf 1 stopped ++ (bytesOf 1 outcome ++ (innerBytes (innerSays (done .inner)) ++ (bytesOf 8 (done .consumed) ++ bytesOf 8 (done .written))))) ⌝ }
+{
+    if answer.len() < ANSWER_SIZE {
+        return;
+    }
+    put_number(answer, 0, 1, stopped as u64);
+    put_number(answer, 1, 1, outcome as u64);
+    put_inner(done.inner, answer);
+    put_number(answer, 26, 8, done.consumed as u64);
+    put_number(answer, 34, 8, done.written as u64);
+}
+
+// Lays the answer of an event that was done, and the engine's bytes.
+fn lay(stopped: u8, outcome: u8, done: Done, state: &mut [u8], answer: &mut [u8])
+    ensures { λ _. ⌜ Lays stopped outcome done (now (state .entry)) (now (answer .entry)) (now (state .exit)) (now (answer .exit)) ⌝ }
+{
+    put_answer(stopped, outcome, done, answer);
+    let engine = done.engine;
+    engine_bytes::write(engine, state);
+}
+
+// Lays the answer of an event and the engine's bytes, unless the event was refused, and tells its refusal or 0.
+pub fn finish(done: Done, state: &mut [u8], answer: &mut [u8]) -> u8
+    ensures { λ r. ⌜ Finishes done (now (state .entry)) (now (answer .entry)) r (now (state .exit)) (now (answer .exit)) ⌝ }
+{
+    let running = done.running;
+    match running {
+        Running::Refused(k) => k,
+        Running::Continue => {
+            lay(0, 0, done, state, answer);
+            0
+        }
+        Running::Stop(outcome) => {
+            lay(
+                1,
+                engine_bytes::outcome_number(outcome),
+                done,
+                state,
+                answer,
+            );
+            0
+        }
+    }
+}

@@ -1,0 +1,495 @@
+// The engine as C calls it: numbers and byte slices only. Each event reads the engine from the lent state, does its step, and lays the engine's bytes back.
+// A function returns 0, or the number of a refusal, and then no lent byte has changed.
+mod answers;
+
+use answers::finish;
+use channels::AgreedMax;
+use channels::Held;
+use connection::Connection;
+use endpoint::Role;
+use engine::ConnectionEngine;
+use engine::NewEngine;
+use frame_encoder::IdleTimeOut;
+use layout::put_may;
+use local_open::Checked;
+use octets::put_number;
+ghost use mathlib.Core.Path.{_≡_};
+ghost use mathlib.Core.List.{[]};
+ghost use mathlib.Core.Option.{none, some};
+ghost use Rattle.octets.specs.Octets.{put};
+ghost use Rattle.layout.specs.Layout.{may, held};
+ghost use Rattle.channels.specs.Channels.{heldSays, agreedMaxSays};
+ghost use Rattle.endpoint.specs.Answers.{roleSays};
+ghost use Rattle.endpoint.specs.Bytes.{roleNumber};
+ghost use Rattle.frame_encoder.specs.Answers.{errorText, idleSaid};
+ghost use Rattle.connection_model.specs.Connection as M;
+ghost use Rattle.engine_model.specs.Engine.{sendHeader, receiveHeader, sendOpen, incoming, closeOrder, allocate, deallocate, outgoing, tick, endOfInput, notDelivered};
+ghost use Rattle.hisproat.specs.Answers.{flagged, settingsOf, statusBytes, takenBytes, tiedBytes};
+ghost use Rattle.hisproat.specs.Promises.{Starts, PutsChannels, PutsStatus};
+ghost use Rattle.hisproat.specs.Crossing.{crossing, Crosses, made, Reads};
+
+// How many bytes an event's answer has, what is told of an engine, and a handle.
+pub const ANSWER_SIZE: usize = 42;
+
+pub const STATUS_SIZE: usize = 16;
+
+pub const HANDLE_SIZE: usize = 5;
+
+// The refusal of bytes that stand for no engine, and of too little room.
+const BROKEN: u8 = 8;
+
+const NO_ROOM: u8 = 9;
+
+// A flag: 0 is no, anything else is yes.
+fn is_set(flag: u8) -> bool
+    ensures { λ r. ⌜ r ≡ flagged flag ⌝ }
+{
+    0 < flag
+}
+
+fn idle_of(has: u8, millis: u32) -> IdleTimeOut
+    ensures { λ r. ⌜ idleSaid r ≡ held (flagged has) millis ⌝ }
+{
+    if is_set(has) {
+        return IdleTimeOut::Millis(millis);
+    }
+    IdleTimeOut::Never
+}
+
+// Lays a new engine into the state, unless its settings were refused.
+fn started(new: NewEngine, state: &mut [u8]) -> u8
+    ensures { λ r. ⌜ Starts new (now (state .entry)) r (now (state .exit)) ⌝ }
+{
+    let answer = new.answer;
+    let engine = new.engine;
+    match answer {
+        Checked::Taken => {
+            engine_bytes::write(engine, state);
+            0
+        }
+        Checked::Refused(k) => k,
+    }
+}
+
+// Lays a handle that may be absent into the answer.
+fn put_held(held: Held, answer: &mut [u8])
+    ensures { λ _. ⌜ now (answer .exit) ≡ put (now (answer .entry)) 0 (may 4 (heldSays held)) ⌝ }
+{
+    match held {
+        Held::Handle(handle) => put_may(answer, 0, 4, true, handle as u64),
+        Held::Nothing => put_may(answer, 0, 4, false, 0),
+    }
+}
+
+fn role_number(role: Role) -> u8
+    ensures { λ r. ⌜ r ≡ roleNumber (roleSays role) ⌝ }
+{
+    match role {
+        Role::Dialler => 0,
+        Role::Listener => 1,
+    }
+}
+
+// Lays the agreed channel-max into the answer.
+fn put_agreed(agreed: AgreedMax, answer: &mut [u8])
+    ensures { λ _. ⌜ now (answer .exit) ≡ put (now (answer .entry)) 12 (may 1 (agreedMaxSays agreed)) ⌝ }
+{
+    match agreed {
+        AgreedMax::Is(highest) => put_may(answer, 12, 1, true, highest as u64),
+        AgreedMax::Absent => put_may(answer, 12, 1, false, 0),
+    }
+}
+
+// Lays the agreed channel-max, and how many channels are taken, into the answer.
+fn put_channels(connection: Connection, answer: &mut [u8])
+    ensures { λ _. ⌜ PutsChannels connection (now (answer .entry)) (now (answer .exit)) ⌝ }
+{
+    if answer.len() < STATUS_SIZE {
+        return;
+    }
+    put_agreed(connection.agreed_channel_max(), answer);
+    put_number(answer, 14, 2, connection.taken_count() as u64);
+}
+
+// Lays what an engine is into the answer.
+fn put_status(engine: ConnectionEngine, answer: &mut [u8])
+    ensures { λ _. ⌜ PutsStatus engine (now (answer .entry)) (now (answer .exit)) ⌝ }
+{
+    if answer.len() < STATUS_SIZE {
+        return;
+    }
+    let connection = engine.connection();
+    put_number(answer, 0, 1, role_number(connection.role()) as u64);
+    engine_bytes::put_phase(engine.phase(), answer, 1);
+    let state = connection.state();
+    put_number(answer, 3, 1, state.number() as u64);
+    put_number(answer, 4, 4, connection.reading_limit() as u64);
+    put_number(answer, 8, 4, connection.writing_limit() as u64);
+    put_channels(connection, answer);
+}
+
+// Makes a fresh engine of the one that dials in the lent state.
+#[no_mangle]
+pub extern "C" fn hisproat_dialler(
+    state: &mut [u8],
+    container_id: &[u8],
+    max_frame_size: u32,
+    channel_max: u16,
+    has_idle_time_out: u8,
+    idle_time_out: u32,
+) -> u8
+    ensures { λ r. ⌜ record { returned = r; state = now (state .exit) } ≡ made M.dialler (settingsOf (now («container_id» .entry)) «max_frame_size» «channel_max» «has_idle_time_out» «idle_time_out») (now (state .entry)) ⌝ }
+{
+    if state.len() != engine_bytes::STATE_SIZE {
+        return BROKEN;
+    }
+    let idle = idle_of(has_idle_time_out, idle_time_out);
+    let new = ConnectionEngine::dialler(container_id, max_frame_size, channel_max, idle);
+    started(new, state)
+}
+
+// Makes a fresh engine of the one that listens in the lent state.
+#[no_mangle]
+pub extern "C" fn hisproat_listener(
+    state: &mut [u8],
+    container_id: &[u8],
+    max_frame_size: u32,
+    channel_max: u16,
+    has_idle_time_out: u8,
+    idle_time_out: u32,
+) -> u8
+    ensures { λ r. ⌜ record { returned = r; state = now (state .exit) } ≡ made M.listener (settingsOf (now («container_id» .entry)) «max_frame_size» «channel_max» «has_idle_time_out» «idle_time_out») (now (state .entry)) ⌝ }
+{
+    if state.len() != engine_bytes::STATE_SIZE {
+        return BROKEN;
+    }
+    let idle = idle_of(has_idle_time_out, idle_time_out);
+    let new = ConnectionEngine::listener(container_id, max_frame_size, channel_max, idle);
+    started(new, state)
+}
+
+// Writes the protocol header.
+#[no_mangle]
+pub extern "C" fn hisproat_send_header(state: &mut [u8], output: &mut [u8], answer: &mut [u8]) -> u8
+    ensures { λ r. ⌜ Crosses (sendHeader (now (output .entry))) (now (state .entry)) (now (answer .entry)) (crossing r (now (state .exit)) (now (answer .exit)) (now (output .exit))) ⌝ }
+{
+    let read = engine_bytes::from_bytes(state);
+    if !read.fine {
+        return BROKEN;
+    }
+    if answer.len() < ANSWER_SIZE {
+        return NO_ROOM;
+    }
+    let engine = read.engine;
+    finish(
+        answers::opening_sent(engine.send_header(output)),
+        state,
+        answer,
+    )
+}
+
+// Reads the peer's protocol header.
+#[no_mangle]
+pub extern "C" fn hisproat_receive_header(state: &mut [u8], input: &[u8], answer: &mut [u8]) -> u8
+    ensures { λ r. ⌜ Crosses (receiveHeader (now (input .entry))) (now (state .entry)) (now (answer .entry)) (crossing r (now (state .exit)) (now (answer .exit)) []) ⌝ }
+{
+    let read = engine_bytes::from_bytes(state);
+    if !read.fine {
+        return BROKEN;
+    }
+    if answer.len() < ANSWER_SIZE {
+        return NO_ROOM;
+    }
+    let engine = read.engine;
+    finish(
+        answers::opening_received(engine.receive_header(input)),
+        state,
+        answer,
+    )
+}
+
+// Writes the Open.
+#[no_mangle]
+pub extern "C" fn hisproat_send_open(state: &mut [u8], output: &mut [u8], answer: &mut [u8]) -> u8
+    ensures { λ r. ⌜ Crosses (sendOpen (now (output .entry))) (now (state .entry)) (now (answer .entry)) (crossing r (now (state .exit)) (now (answer .exit)) (now (output .exit))) ⌝ }
+{
+    let read = engine_bytes::from_bytes(state);
+    if !read.fine {
+        return BROKEN;
+    }
+    if answer.len() < ANSWER_SIZE {
+        return NO_ROOM;
+    }
+    let engine = read.engine;
+    finish(
+        answers::opening_sent(engine.send_open(output)),
+        state,
+        answer,
+    )
+}
+
+// A frame came. `spare` is the handle that a listener's new session would get, `waiting` the session frames that wait to be sent.
+#[no_mangle]
+pub extern "C" fn hisproat_on_incoming(
+    state: &mut [u8],
+    frame: &[u8],
+    spare: u32,
+    waiting: &[u8],
+    output: &mut [u8],
+    answer: &mut [u8],
+) -> u8
+    ensures { λ r. ⌜ Crosses (incoming (now (frame .entry)) spare (now (waiting .entry)) (now (output .entry))) (now (state .entry)) (now (answer .entry)) (crossing r (now (state .exit)) (now (answer .exit)) (now (output .exit))) ⌝ }
+{
+    let read = engine_bytes::from_bytes(state);
+    if !read.fine {
+        return BROKEN;
+    }
+    if answer.len() < ANSWER_SIZE {
+        return NO_ROOM;
+    }
+    let engine = read.engine;
+    finish(
+        answers::received(engine.on_incoming(frame, spare, waiting, output)),
+        state,
+        answer,
+    )
+}
+
+// Sends the session frames that wait, and then a Close.
+#[no_mangle]
+pub extern "C" fn hisproat_on_close(
+    state: &mut [u8],
+    waiting: &[u8],
+    output: &mut [u8],
+    answer: &mut [u8],
+) -> u8
+    ensures { λ r. ⌜ Crosses (closeOrder none (now (waiting .entry)) (now (output .entry))) (now (state .entry)) (now (answer .entry)) (crossing r (now (state .exit)) (now (answer .exit)) (now (output .exit))) ⌝ }
+{
+    let read = engine_bytes::from_bytes(state);
+    if !read.fine {
+        return BROKEN;
+    }
+    if answer.len() < ANSWER_SIZE {
+        return NO_ROOM;
+    }
+    let engine = read.engine;
+    finish(
+        answers::sent(engine.on_close(waiting, output)),
+        state,
+        answer,
+    )
+}
+
+// Sends the session frames that wait, and then a Close with an error.
+#[no_mangle]
+pub extern "C" fn hisproat_on_close_with_error(
+    state: &mut [u8],
+    condition: &[u8],
+    has_description: u8,
+    description: &[u8],
+    waiting: &[u8],
+    output: &mut [u8],
+    answer: &mut [u8],
+) -> u8
+    ensures { λ r. ⌜ Crosses (closeOrder (some (errorText (now (condition .entry)) (flagged «has_description») (now (description .entry)))) (now (waiting .entry)) (now (output .entry))) (now (state .entry)) (now (answer .entry)) (crossing r (now (state .exit)) (now (answer .exit)) (now (output .exit))) ⌝ }
+{
+    let read = engine_bytes::from_bytes(state);
+    if !read.fine {
+        return BROKEN;
+    }
+    if answer.len() < ANSWER_SIZE {
+        return NO_ROOM;
+    }
+    let engine = read.engine;
+    let order = engine.on_close_with_error(
+        condition,
+        is_set(has_description),
+        description,
+        waiting,
+        output,
+    );
+    finish(answers::sent(order), state, answer)
+}
+
+// Hands out a channel to the handle.
+#[no_mangle]
+pub extern "C" fn hisproat_on_allocate(state: &mut [u8], handle: u32, answer: &mut [u8]) -> u8
+    ensures { λ r. ⌜ Crosses (allocate handle) (now (state .entry)) (now (answer .entry)) (crossing r (now (state .exit)) (now (answer .exit)) []) ⌝ }
+{
+    let read = engine_bytes::from_bytes(state);
+    if !read.fine {
+        return BROKEN;
+    }
+    if answer.len() < ANSWER_SIZE {
+        return NO_ROOM;
+    }
+    let engine = read.engine;
+    finish(
+        answers::allocated(engine.on_allocate(handle)),
+        state,
+        answer,
+    )
+}
+
+// Frees a channel.
+#[no_mangle]
+pub extern "C" fn hisproat_on_deallocate(state: &mut [u8], channel: u16, answer: &mut [u8]) -> u8
+    ensures { λ r. ⌜ Crosses (deallocate channel) (now (state .entry)) (now (answer .entry)) (crossing r (now (state .exit)) (now (answer .exit)) []) ⌝ }
+{
+    let read = engine_bytes::from_bytes(state);
+    if !read.fine {
+        return BROKEN;
+    }
+    if answer.len() < ANSWER_SIZE {
+        return NO_ROOM;
+    }
+    let engine = read.engine;
+    finish(
+        answers::deallocated(engine.on_deallocate(channel)),
+        state,
+        answer,
+    )
+}
+
+// Sends a session's frame.
+#[no_mangle]
+pub extern "C" fn hisproat_on_outgoing(
+    state: &mut [u8],
+    frame: &[u8],
+    output: &mut [u8],
+    answer: &mut [u8],
+) -> u8
+    ensures { λ r. ⌜ Crosses (outgoing (now (frame .entry)) (now (output .entry))) (now (state .entry)) (now (answer .entry)) (crossing r (now (state .exit)) (now (answer .exit)) (now (output .exit))) ⌝ }
+{
+    let read = engine_bytes::from_bytes(state);
+    if !read.fine {
+        return BROKEN;
+    }
+    if answer.len() < ANSWER_SIZE {
+        return NO_ROOM;
+    }
+    let engine = read.engine;
+    finish(
+        answers::sent(engine.on_outgoing_session_frame(frame, output)),
+        state,
+        answer,
+    )
+}
+
+// It is time for a heartbeat.
+#[no_mangle]
+pub extern "C" fn hisproat_on_tick(state: &mut [u8], output: &mut [u8], answer: &mut [u8]) -> u8
+    ensures { λ r. ⌜ Crosses (tick (now (output .entry))) (now (state .entry)) (now (answer .entry)) (crossing r (now (state .exit)) (now (answer .exit)) (now (output .exit))) ⌝ }
+{
+    let read = engine_bytes::from_bytes(state);
+    if !read.fine {
+        return BROKEN;
+    }
+    if answer.len() < ANSWER_SIZE {
+        return NO_ROOM;
+    }
+    let engine = read.engine;
+    finish(answers::ticked(engine.on_heartbeat(output)), state, answer)
+}
+
+// The peer sends no more.
+#[no_mangle]
+pub extern "C" fn hisproat_on_end_of_input(
+    state: &mut [u8],
+    output: &mut [u8],
+    answer: &mut [u8],
+) -> u8
+    ensures { λ r. ⌜ Crosses (endOfInput (now (output .entry))) (now (state .entry)) (now (answer .entry)) (crossing r (now (state .exit)) (now (answer .exit)) (now (output .exit))) ⌝ }
+{
+    let read = engine_bytes::from_bytes(state);
+    if !read.fine {
+        return BROKEN;
+    }
+    if answer.len() < ANSWER_SIZE {
+        return NO_ROOM;
+    }
+    let engine = read.engine;
+    finish(
+        answers::handled(engine.on_end_of_input(output)),
+        state,
+        answer,
+    )
+}
+
+// What came could not be delivered to its session.
+#[no_mangle]
+pub extern "C" fn hisproat_on_not_delivered(
+    state: &mut [u8],
+    new_session: u8,
+    output: &mut [u8],
+    answer: &mut [u8],
+) -> u8
+    ensures { λ r. ⌜ Crosses (notDelivered (flagged «new_session») (now (output .entry))) (now (state .entry)) (now (answer .entry)) (crossing r (now (state .exit)) (now (answer .exit)) (now (output .exit))) ⌝ }
+{
+    let read = engine_bytes::from_bytes(state);
+    if !read.fine {
+        return BROKEN;
+    }
+    if answer.len() < ANSWER_SIZE {
+        return NO_ROOM;
+    }
+    let engine = read.engine;
+    finish(
+        answers::handled(engine.on_not_delivered(is_set(new_session), output)),
+        state,
+        answer,
+    )
+}
+
+// Tells role, phase, outcome, state, limits, and how many channels are taken.
+#[no_mangle]
+pub extern "C" fn hisproat_status(state: &[u8], answer: &mut [u8]) -> u8
+    ensures { λ r. ⌜ Reads (statusBytes) (now (state .entry)) (now (answer .entry)) (record { returned = r; answer = now (answer .exit) }) ⌝ }
+{
+    let read = engine_bytes::from_bytes(state);
+    if !read.fine {
+        return BROKEN;
+    }
+    if answer.len() < STATUS_SIZE {
+        return NO_ROOM;
+    }
+    let engine = read.engine;
+    put_status(engine, answer);
+    0
+}
+
+// Tells the handle of the session on an outgoing channel.
+#[no_mangle]
+pub extern "C" fn hisproat_handle_at(state: &[u8], channel: u16, answer: &mut [u8]) -> u8
+    ensures { λ r. ⌜ Reads (takenBytes channel) (now (state .entry)) (now (answer .entry)) (record { returned = r; answer = now (answer .exit) }) ⌝ }
+{
+    let read = engine_bytes::from_bytes(state);
+    if !read.fine {
+        return BROKEN;
+    }
+    if answer.len() < HANDLE_SIZE {
+        return NO_ROOM;
+    }
+    let engine = read.engine;
+    let connection = engine.connection();
+    put_held(connection.handle_at(channel), answer);
+    0
+}
+
+// Tells the handle that an incoming channel is tied to.
+#[no_mangle]
+pub extern "C" fn hisproat_tied_handle(state: &[u8], channel: u16, answer: &mut [u8]) -> u8
+    ensures { λ r. ⌜ Reads (tiedBytes channel) (now (state .entry)) (now (answer .entry)) (record { returned = r; answer = now (answer .exit) }) ⌝ }
+{
+    let read = engine_bytes::from_bytes(state);
+    if !read.fine {
+        return BROKEN;
+    }
+    if answer.len() < HANDLE_SIZE {
+        return NO_ROOM;
+    }
+    let engine = read.engine;
+    let connection = engine.connection();
+    put_held(connection.tied_handle(channel), answer);
+    0
+}
