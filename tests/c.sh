@@ -1,0 +1,53 @@
+#!/usr/bin/env bash
+# Tests of the C side: the header as C and as C++, its example, the tests through C (under valgrind too), and the example hub against its stored output.
+# Usage: tests/c.sh [ARCHIVE]; without ARCHIVE the library is built by rt. Installs gcc, g++ and valgrind where they are missing.
+# The last line is 'c.sh: N parts passed', and the exit status 0, where nothing was wrong.
+set -euo pipefail
+archive="$(realpath "${1:-/dev/null}")"
+cd "$(dirname "$0")/.."
+for tool in gcc g++ valgrind; do
+    command -v "$tool" > /dev/null || { apt-get update -qq && apt-get install -y -qq "$tool" libc6-dev; } > /dev/null
+done
+work=target/c
+mkdir -p "$work"
+if [ $# -eq 0 ]; then
+    archive=target/staticlib/libhisproat.a
+    rt staticlib hisproat > "$work/staticlib.log" 2>&1 || { cat "$work/staticlib.log" >&2; exit 1; }
+fi
+warnings=(-Wall -Wextra -Werror -pedantic -Iinclude)
+parts=0
+
+passed() { # NAME
+    echo "c.sh: $1"
+    parts=$((parts + 1))
+}
+
+# the header alone, and twice
+printf '#include "hisproat.h"\n#include "hisproat.h"\n' > "$work/alone.c"
+gcc -std=c11 "${warnings[@]}" -c "$work/alone.c" -o "$work/alone.o"
+g++ -std=c++11 "${warnings[@]}" -x c++ -c "$work/alone.c" -o "$work/alone.o"
+passed "the header is C11 and C++11"
+
+# the example in the header's first comment
+sed -n '/^ \* EXAMPLE/,/^ \* End of the example/s/^ \*     //p' include/hisproat.h > "$work/example.c"
+grep -q hisproat_on_incoming "$work/example.c"
+gcc -std=c11 "${warnings[@]}" "$work/example.c" tests/c/example.c "$archive" -o "$work/example"
+"$work/example"
+passed "the header's example does what it says"
+
+gcc -std=c11 -O2 "${warnings[@]}" -Itests/c tests/c/crossing.c tests/c/rig.c tests/c/state_bytes.c "$archive" -o "$work/crossing"
+gcc -std=c11 -O2 "${warnings[@]}" examples/hub.c "$archive" -o "$work/hub"
+gcc -std=c11 -O2 "${warnings[@]}" tests/c/speed.c "$archive" -pthread -o "$work/speed"
+passed "the tests, the hub and the measuring program are built"
+
+"$work/crossing" all
+passed "the library through C"
+
+valgrind --error-exitcode=1 -q "$work/crossing" | tail -n 1
+passed "the same under valgrind"
+
+"$work/hub" examples/pads.amqp | diff - examples/hub.out
+valgrind --error-exitcode=1 -q "$work/hub" examples/pads.amqp | diff - examples/hub.out
+passed "the hub counts what its stored output has"
+
+echo "c.sh: $parts parts passed"

@@ -1,0 +1,196 @@
+/*
+ * What a call through C costs.
+ *   speed                               a line for each operation: its name, how many sessions there are, nanoseconds, bytes of stack
+ *   speed OPERATION SESSIONS ROUNDS     does so many rounds and prints nothing: for a tool that counts instructions
+ * bin/speed makes a table of both. A round is one call; of `pair` it is two, allocate and deallocate. `fault` is a frame for no session, which is answered with a
+ * Close; each of its rounds begins by putting the state back.
+ */
+#define _POSIX_C_SOURCE 200809L
+
+#include "hisproat.h"
+
+#include <pthread.h>
+#include <stdio.h>
+#include <stdlib.h>
+#include <string.h>
+#include <time.h>
+
+typedef struct {
+    uint8_t state[HISPROAT_STATE_SIZE];
+    uint8_t set_up[HISPROAT_STATE_SIZE]; /* the state as it was set up */
+    uint8_t output[HISPROAT_OUTPUT_ROOM];
+    uint8_t answer[HISPROAT_ANSWER_SIZE];
+} Work;
+
+typedef uint8_t Round(Work *work);
+
+static const uint8_t NOTHING = 0;
+
+/* ---- The operations */
+
+static uint8_t nothing(Work *w)
+{
+    (void)w;
+    return 0;
+}
+
+static uint8_t frame_in(Work *w, const uint8_t *frame, size_t len)
+{
+    return hisproat_on_incoming(w->state, sizeof w->state, frame, len, 0, &NOTHING, 0, w->output, sizeof w->output, w->answer, sizeof w->answer);
+}
+
+/* A press: handle, delivery-id, tag, format, settled; the value 1 */
+static uint8_t transfer(Work *w)
+{
+    static const uint8_t frame[] = { 0,    0,    0,    0x1A, 2,    0,    0, 0,    0x00, 0x53, 0x14, 0xC0, 0x08,
+                                     0x05, 0x43, 0x43, 0xA0, 1,    0,    0x43, 0x41, 0x00, 0x53, 0x77, 0x52, 0x01 };
+    return frame_in(w, frame, sizeof frame);
+}
+
+static uint8_t tick(Work *w)
+{
+    return hisproat_on_tick(w->state, sizeof w->state, w->output, sizeof w->output, w->answer, sizeof w->answer);
+}
+
+static uint8_t pair(Work *w)
+{
+    uint8_t refused = hisproat_on_allocate(w->state, sizeof w->state, 7, w->answer, sizeof w->answer);
+    return refused ? refused : hisproat_on_deallocate(w->state, sizeof w->state, hisproat_channel(w->answer), w->answer, sizeof w->answer);
+}
+
+static uint8_t fault(Work *w)
+{
+    static const uint8_t frame[] = { 0, 0, 0, 0x0C, 2, 0, 0, 0xFF, 0x00, 0x53, 0x12, 0x45 };
+    memcpy(w->state, w->set_up, sizeof w->state);
+    return frame_in(w, frame, sizeof frame);
+}
+
+static uint8_t status(Work *w)
+{
+    return hisproat_status(w->state, sizeof w->state, w->answer, sizeof w->answer);
+}
+
+static const struct {
+    const char *name;
+    Round *round;
+} OPERATIONS[] = { { "transfer", transfer }, { "tick", tick }, { "pair", pair }, { "fault", fault }, { "status", status } };
+
+enum { COUNT = sizeof OPERATIONS / sizeof OPERATIONS[0] };
+
+/* ---- A listener with so many sessions, the first of them on channel 0. The last channel is left free. */
+
+static void need(uint8_t refused, const char *what)
+{
+    if (refused != 0) {
+        fprintf(stderr, "speed: %s: refused with %u\n", what, refused);
+        exit(1);
+    }
+}
+
+static void set_up(Work *w, unsigned sessions)
+{
+    static const uint8_t open[] = { 0, 0, 0, 0x11, 2, 0, 0, 0, 0x00, 0x53, 0x10, 0xC0, 0x04, 0x01, 0xA1, 1, 'p' };
+    uint8_t begin[] = { 0, 0, 0, 0x14, 2, 0, 0, 0, 0x00, 0x53, 0x11, 0xC0, 0x07, 0x04, 0x40, 0x43, 0x52, 100, 0x52, 100 };
+    need(hisproat_listener(w->state, sizeof w->state, (const uint8_t *)"hub", 3, 16384, 255, 1, 30000), "settings");
+    need(hisproat_receive_header(w->state, sizeof w->state, (const uint8_t *)"AMQP\0\1\0\0", 8, w->answer, sizeof w->answer), "header");
+    need(hisproat_send_header(w->state, sizeof w->state, w->output, sizeof w->output, w->answer, sizeof w->answer), "header");
+    need(frame_in(w, open, sizeof open), "Open");
+    need(hisproat_send_open(w->state, sizeof w->state, w->output, sizeof w->output, w->answer, sizeof w->answer), "Open");
+    for (unsigned i = 0; i < sessions; i++) {
+        begin[7] = (uint8_t)i;
+        need(frame_in(w, begin, sizeof begin), "Begin");
+    }
+    memcpy(w->set_up, w->state, sizeof w->set_up);
+}
+
+/* ---- Measuring */
+
+static void rounds(Round *round, Work *w, unsigned long count)
+{
+    for (unsigned long i = 0; i < count; i++)
+        need(round(w), "a round");
+}
+
+static double seconds(void)
+{
+    struct timespec now;
+    clock_gettime(CLOCK_PROCESS_CPUTIME_ID, &now);
+    return (double)now.tv_sec + 1e-9 * (double)now.tv_nsec;
+}
+
+/* The best of many short runs, in nanoseconds a round. */
+static double nanoseconds(Round *round, Work *w)
+{
+    enum { RUNS = 40, EACH = 2000 };
+    double best = 1e9;
+    for (int i = 0; i < RUNS; i++) {
+        double start = seconds();
+        rounds(round, w, EACH);
+        double spent = (seconds() - start) * 1e9 / EACH;
+        best = spent < best ? spent : best;
+    }
+    return best;
+}
+
+typedef struct {
+    Round *round;
+    Work *work;
+} Job;
+
+static void *one_round(void *job)
+{
+    need(((Job *)job)->round(((Job *)job)->work), "a round");
+    return NULL;
+}
+
+/* How many bytes of a painted stack a thread that does one round leaves untouched. */
+static size_t untouched(Round *round, Work *w)
+{
+    enum { STACK = 1 << 20 };
+    pthread_t thread;
+    pthread_attr_t attributes;
+    Job job = { round, w };
+    uint8_t *stack = aligned_alloc(4096, STACK);
+    size_t left = 0;
+    if (stack == NULL)
+        exit(2);
+    memset(stack, 0xA5, STACK);
+    pthread_attr_init(&attributes);
+    if (pthread_attr_setstack(&attributes, stack, STACK) != 0 || pthread_create(&thread, &attributes, one_round, &job) != 0)
+        exit(2);
+    pthread_join(thread, NULL);
+    while (left < STACK && stack[left] == 0xA5)
+        left++;
+    pthread_attr_destroy(&attributes);
+    free(stack);
+    return left;
+}
+
+static void measure_all(void)
+{
+    static const unsigned SESSIONS[] = { 1, 255 };
+    static Work w;
+    for (size_t i = 0; i < COUNT; i++)
+        for (size_t j = 0; j < sizeof SESSIONS / sizeof SESSIONS[0]; j++) {
+            set_up(&w, SESSIONS[j]);
+            size_t idle = untouched(nothing, &w), busy = untouched(OPERATIONS[i].round, &w);
+            printf("%s %u %.0f %zu\n", OPERATIONS[i].name, SESSIONS[j], nanoseconds(OPERATIONS[i].round, &w), idle - busy);
+        }
+}
+
+int main(int argc, char **argv)
+{
+    static Work w;
+    if (argc == 1) {
+        measure_all();
+        return 0;
+    }
+    for (size_t i = 0; argc == 4 && i < COUNT; i++)
+        if (strcmp(argv[1], OPERATIONS[i].name) == 0) {
+            set_up(&w, (unsigned)strtoul(argv[2], NULL, 10));
+            rounds(OPERATIONS[i].round, &w, strtoul(argv[3], NULL, 10));
+            return 0;
+        }
+    fprintf(stderr, "usage: speed [OPERATION SESSIONS ROUNDS]\n");
+    return 2;
+}
