@@ -1,15 +1,14 @@
 -- From what the engine promises to what a call from C comes to.
 -- Assumes nothing.
 use mathlib.Core.Path.{_≡_, refl, sym, _∙_, ap, ap₂, subst}
-use mathlib.Core.Bool.{Bool, true, false, cond, not, _&&_}
-use mathlib.Core.List.{List, [], _∷_, _++_, append-nil}
-use mathlib.Core.Option.{Option, none, some}
+use mathlib.Core.Bool.{Bool, true, false, cond, not}
+use mathlib.Core.List.{List, _++_, append-nil}
+use mathlib.Core.Option.{Option, some}
 use Prim.Native.Nat.{ℕ, _+_, _≤_, _<_}
 use native.Mathlib.Omega.{arith}
-use lib.Dec.{leb, eqb}
 use lib.ListN.{length, drop}
 use lib.Seq.{drop-length}
-use borrow.Author.Tests.{le-leb, lt-leb, eq-eqb, ne-eqb, not-true, not-false}
+use borrow.Author.Tests.{le-leb, lt-leb, not-true, not-false}
 use Rattle.octets.specs.Octets.{put}
 use Rattle.octets.specs.Verdict.{Verdict, refuse, accept}
 use Rattle.octets.proofs.Laws.{put-front}
@@ -17,16 +16,16 @@ use Rattle.frame_encoder.specs.Frames.{Settings}
 use Rattle.connection_model.specs.Connection.{Role, Answer}
 use Rattle.frame_encoder.specs.Answers.{errorText}
 use Rattle.connection.proofs.Bytes.{length-sound}
-use Rattle.engine_model.specs.Engine.{Engine, Event, closeOrder, notDelivered, Reply, Seen, seen, next, lent}
+use Rattle.engine_model.specs.Engine.{Engine, Event, closeOrder, notDelivered, Reply, seen, next, lent}
 use Rattle.engine.specs.declared.ConnectionEngine.{ConnectionEngine}
-use Rattle.engine.specs.Answers.{roleOf, settingsOf, viewOf, Sound, replySays}
-use Rattle.engine.specs.Promises.{Meets, Does}
+use Rattle.engine.specs.Answers.{roleOf, settingsOf, viewOf, Sound}
+use Rattle.engine.specs.Promises.{Does}
 use Rattle.engine_bytes.specs.declared.EngineRead.{EngineRead}
-use Rattle.engine_bytes.specs.Bytes.{engineBytes, StandFor}
+use Rattle.engine_bytes.specs.Bytes.{engineBytes}
 use Rattle.engine_bytes.specs.Promises.{ReadsEngine}
 use Rattle.engine_bytes.proofs.Laws.{engine-length, stand-length, stand-once}
 use Rattle.hisproat.specs.declared.answers.Done.{Done}
-use Rattle.hisproat.specs.Crossing.{Crossing, crossing, returnedBy, answerAfter, saw, crossed, Crosses, Told, tells, Reads}
+use Rattle.hisproat.specs.Crossing.{Crossing, crossing, returnedBy, answerAfter, saw, crossed, Crosses}
 use Rattle.hisproat.specs.Promises.{stateAfter, Amounts, Finishes}
 
 -- ---- a whole buffer

@@ -2,7 +2,7 @@
 -- Assumes nothing.
 use mathlib.Core.Path.{_≡_, refl, sym, _∙_, ap, ap₂, subst}
 use mathlib.Core.List.{List, [], _∷_, _++_, append-assoc}
-use mathlib.Core.Option.{Option, none, some}
+use mathlib.Core.Option.{Option, some}
 use Prim.Native.Nat.{ℕ, _+_, _≤_, _<_}
 use native.Mathlib.Omega.{arith}
 use lib.ListN.{length, length-append}
@@ -12,19 +12,17 @@ use Rattle.octets.specs.Octets.{bytesOf, put}
 use Rattle.octets.specs.Verdict.{Verdict}
 use Rattle.octets.proofs.Laws.{length-bytesOf, put-not, put-more}
 use Rattle.connection_model.specs.Connection.{Answer}
-use Rattle.engine_model.specs.Engine.{Reply}
 use Rattle.engine.specs.declared.Outcome.{Outcome}
 use Rattle.engine.specs.declared.Outcome.the-variants.{Fine, TransportError, IllegalState, NotFound, NotImplemented, RemoteClosed, RemoteClosedWithError}
 use Rattle.engine.specs.declared.Running.{Running}
 use Rattle.engine.specs.declared.Running.the-variants.{Continue, Stop, Refused}
 use Rattle.engine.proofs.Running.{the-type as running-type}
-use Rattle.engine.specs.Answers.{outcomeSays, replySays, Sound}
+use Rattle.engine.specs.Answers.{outcomeSays, replySays}
 use Rattle.engine_bytes.specs.Bytes.{outcomeNumber}
-use Rattle.hisproat.specs.declared.answers.Inner as I
 use Rattle.hisproat.specs.declared.answers.Done.{Done}
 use Rattle.hisproat.specs.Answers.{Inner, inner, innerOf, innerBytes, endedBytes, replyBytes}
-use Rattle.hisproat.specs.Crossing.{returnedBy, answerAfter}
-use Rattle.hisproat.specs.Promises.{innerSays, stateAfter, Lays, Finishes}
+use Rattle.hisproat.specs.Crossing.{answerAfter}
+use Rattle.hisproat.specs.Promises.{innerSays, Lays, Finishes}
 
 -- ---- one part after the other
 

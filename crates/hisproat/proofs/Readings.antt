@@ -1,12 +1,11 @@
 -- What is told of an engine, and how it is laid into the lent answer.
 -- Assumes nothing.
 use mathlib.Core.Path.{_≡_, refl, sym, _∙_, ap, ap₂, subst}
-use mathlib.Core.Bool.{Bool, true, false, cond, not}
+use mathlib.Core.Bool.{true, false, cond, not}
 use mathlib.Core.List.{List, [], _∷_, _++_, append-assoc}
-use mathlib.Core.Option.{Option, none, some}
+use mathlib.Core.Option.{Option}
 use Prim.Native.Nat.{ℕ, _+_, _≤_, _<_}
 use native.Mathlib.Omega.{arith}
-use lib.Dec.{leb}
 use lib.ListN.{length, length-append}
 use borrow.Author.Tests.{le-leb, lt-leb, not-true, not-false}
 use types.Run.{OneOf, miss}
@@ -40,9 +39,9 @@ use Rattle.engine_bytes.specs.Bytes.{phaseBytes, StandFor}
 use Rattle.engine_bytes.specs.Promises.{ReadsEngine}
 use Rattle.engine_bytes.proofs.Laws.{stand-once}
 use Rattle.hisproat.specs.Answers.{statusBytes, takenBytes, tiedBytes}
-use Rattle.hisproat.specs.Crossing.{Told, tells, Reads}
+use Rattle.hisproat.specs.Crossing.{Told, Reads}
 use Rattle.hisproat.specs.Promises.{PutsChannels, PutsStatus}
-use Rattle.hisproat.proofs.Laying.{Laid, first, more}
+use Rattle.hisproat.proofs.Laying.{first, more}
 
 -- ---- a number that may be absent
 

@@ -1,6 +1,6 @@
 -- A new engine: what it is started with, and how it is laid.
 -- Assumes nothing.
-use mathlib.Core.Path.{_≡_, refl, sym, _∙_, ap, ap₂, subst}
+use mathlib.Core.Path.{_≡_, refl, sym, _∙_, ap, ap₂}
 use mathlib.Core.Bool.{Bool, true, false, cond, _&&_}
 use mathlib.Core.List.{List, [], _∷_}
 use mathlib.Core.Option.{Option}
@@ -11,17 +11,15 @@ use lib.ListN.{length}
 use borrow.Author.Tests.{eq-eqb, ne-eqb}
 use types.Run.{OneOf, miss}
 use denote.Enum.Declared.{tagOf}
-use Rattle.octets.specs.Octets.{put}
 use Rattle.octets.specs.Verdict.{Verdict, refuse, accept}
 use Rattle.octets.proofs.Laws.{require-on, require-off}
 use Rattle.frame_encoder.specs.Frames.{Settings}
-use Rattle.local_open.specs.Settings.{allowed, smallest, orSmallest, checkSays}
+use Rattle.local_open.specs.Settings.{allowed, smallest, checkSays}
 use Rattle.local_open.specs.declared.Checked.{Checked}
 use Rattle.local_open.specs.declared.Checked.the-variants.{Taken, Refused}
 use Rattle.local_open.proofs.Checked.{the-type as checked-type}
 use Rattle.connection_model.specs.Connection.{Role}
-use Rattle.engine_model.specs.Engine.{Engine, fresh}
-use Rattle.engine.specs.declared.ConnectionEngine.{ConnectionEngine}
+use Rattle.engine_model.specs.Engine.{fresh}
 use Rattle.engine.specs.declared.NewEngine.{NewEngine}
 use Rattle.engine.specs.Answers.{roleOf, viewOf, phaseSays, Sound}
 use Rattle.engine.specs.Answers as E

@@ -1,16 +1,15 @@
 -- What each answer of a call comes to in numbers, and what each event amounts to, with the facts as they come.
 -- Assumes nothing.
-use mathlib.Core.Path.{_≡_, refl, sym, _∙_, ap, ap₂}
+use mathlib.Core.Path.{_≡_, refl, sym, _∙_, ap}
 use mathlib.Core.Bool.{Bool, true, false, not}
-use mathlib.Core.List.{List, [], _∷_}
-use mathlib.Core.Option.{Option, none, some}
-use Prim.Native.Nat.{ℕ, zero, suc, _<_, _≤_}
+use mathlib.Core.List.{[], _∷_}
+use mathlib.Core.Option.{some}
+use Prim.Native.Nat.{ℕ, zero, suc}
 use native.Mathlib.Omega.{arith}
-use lib.Dec.{ltb, eqb}
+use lib.Dec.{ltb}
 use borrow.Author.Tests.{lt-ltb, ne-eqb}
 use types.Run.{OneOf, miss}
 use denote.Enum.Declared.{tagOf}
-use Rattle.octets.specs.Verdict.{Verdict, refuse, accept}
 use Rattle.octets.specs.declared.Written.{Written}
 use Rattle.octets.specs.declared.Written.the-variants.{Bytes, Refused as NotWritten}
 use Rattle.octets.proofs.Written.{the-type as written-type}
@@ -21,7 +20,6 @@ use Rattle.channels.specs.declared.Held.the-variants.{Handle, Nothing}
 use Rattle.channels.proofs.Held.{the-type as held-type}
 use Rattle.frame_encoder.specs.declared.IdleTimeOut.the-variants.{Never, Millis}
 use Rattle.frame_encoder.specs.Answers.{idleSaid}
-use Rattle.connection_model.specs.Connection.{Answer}
 use Rattle.connection.specs.View.{headerSays, allocateSays, tickSays}
 use Rattle.connection.specs.declared.HeaderAnswer.{HeaderAnswer}
 use Rattle.connection.specs.declared.HeaderAnswer.the-variants.{Amqp, OtherProtocol, Refused as NoHeader}

@@ -3,8 +3,7 @@
 use mathlib.Core.Path.{_≡_}
 use mathlib.Core.List.{List, _++_}
 use mathlib.Core.Option.{Option}
-use Prim.Native.Nat.{ℕ, _≤_}
-use lib.ListN.{length}
+use Prim.Native.Nat.{ℕ}
 use Rattle.octets.specs.Octets.{bytesOf, put}
 use Rattle.octets.specs.Verdict.{Verdict, refuse, accept}
 use Rattle.connection_model.specs.Connection.{Answer}

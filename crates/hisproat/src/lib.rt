@@ -181,11 +181,8 @@ pub extern "C" fn hisproat_send_header(state: &mut [u8], output: &mut [u8], answ
         return NO_ROOM;
     }
     let engine = read.engine;
-    finish(
-        answers::opening_sent(engine.send_header(output)),
-        state,
-        answer,
-    )
+    let header = engine.send_header(output);
+    finish(answers::opening_sent(header), state, answer)
 }
 
 // Reads the peer's protocol header.
@@ -201,11 +198,8 @@ pub extern "C" fn hisproat_receive_header(state: &mut [u8], input: &[u8], answer
         return NO_ROOM;
     }
     let engine = read.engine;
-    finish(
-        answers::opening_received(engine.receive_header(input)),
-        state,
-        answer,
-    )
+    let came = engine.receive_header(input);
+    finish(answers::opening_received(came), state, answer)
 }
 
 // Writes the Open.
@@ -221,11 +215,8 @@ pub extern "C" fn hisproat_send_open(state: &mut [u8], output: &mut [u8], answer
         return NO_ROOM;
     }
     let engine = read.engine;
-    finish(
-        answers::opening_sent(engine.send_open(output)),
-        state,
-        answer,
-    )
+    let opening = engine.send_open(output);
+    finish(answers::opening_sent(opening), state, answer)
 }
 
 // A frame came. `spare` is the handle that a listener's new session would get, `waiting` the session frames that wait to be sent.
@@ -248,11 +239,8 @@ pub extern "C" fn hisproat_on_incoming(
         return NO_ROOM;
     }
     let engine = read.engine;
-    finish(
-        answers::received(engine.on_incoming(frame, spare, waiting, output)),
-        state,
-        answer,
-    )
+    let taken = engine.on_incoming(frame, spare, waiting, output);
+    finish(answers::received(taken), state, answer)
 }
 
 // Sends the session frames that wait, and then a Close.
@@ -273,11 +261,8 @@ pub extern "C" fn hisproat_on_close(
         return NO_ROOM;
     }
     let engine = read.engine;
-    finish(
-        answers::sent(engine.on_close(waiting, output)),
-        state,
-        answer,
-    )
+    let closing = engine.on_close(waiting, output);
+    finish(answers::sent(closing), state, answer)
 }
 
 // Sends the session frames that wait, and then a Close with an error.
@@ -324,11 +309,8 @@ pub extern "C" fn hisproat_on_allocate(state: &mut [u8], handle: u32, answer: &m
         return NO_ROOM;
     }
     let engine = read.engine;
-    finish(
-        answers::allocated(engine.on_allocate(handle)),
-        state,
-        answer,
-    )
+    let given = engine.on_allocate(handle);
+    finish(answers::allocated(given), state, answer)
 }
 
 // Frees a channel.
@@ -344,11 +326,8 @@ pub extern "C" fn hisproat_on_deallocate(state: &mut [u8], channel: u16, answer:
         return NO_ROOM;
     }
     let engine = read.engine;
-    finish(
-        answers::deallocated(engine.on_deallocate(channel)),
-        state,
-        answer,
-    )
+    let freed = engine.on_deallocate(channel);
+    finish(answers::deallocated(freed), state, answer)
 }
 
 // Sends a session's frame.
@@ -369,11 +348,8 @@ pub extern "C" fn hisproat_on_outgoing(
         return NO_ROOM;
     }
     let engine = read.engine;
-    finish(
-        answers::sent(engine.on_outgoing_session_frame(frame, output)),
-        state,
-        answer,
-    )
+    let sent = engine.on_outgoing_session_frame(frame, output);
+    finish(answers::sent(sent), state, answer)
 }
 
 // It is time for a heartbeat.
@@ -389,7 +365,8 @@ pub extern "C" fn hisproat_on_tick(state: &mut [u8], output: &mut [u8], answer: 
         return NO_ROOM;
     }
     let engine = read.engine;
-    finish(answers::ticked(engine.on_heartbeat(output)), state, answer)
+    let beat = engine.on_heartbeat(output);
+    finish(answers::ticked(beat), state, answer)
 }
 
 // The peer sends no more.
@@ -409,11 +386,8 @@ pub extern "C" fn hisproat_on_end_of_input(
         return NO_ROOM;
     }
     let engine = read.engine;
-    finish(
-        answers::handled(engine.on_end_of_input(output)),
-        state,
-        answer,
-    )
+    let ended = engine.on_end_of_input(output);
+    finish(answers::handled(ended), state, answer)
 }
 
 // What came could not be delivered to its session.
@@ -434,17 +408,14 @@ pub extern "C" fn hisproat_on_not_delivered(
         return NO_ROOM;
     }
     let engine = read.engine;
-    finish(
-        answers::handled(engine.on_not_delivered(is_set(new_session), output)),
-        state,
-        answer,
-    )
+    let told = engine.on_not_delivered(is_set(new_session), output);
+    finish(answers::handled(told), state, answer)
 }
 
 // Tells role, phase, outcome, state, limits, and how many channels are taken.
 #[no_mangle]
 pub extern "C" fn hisproat_status(state: &[u8], answer: &mut [u8]) -> u8
-    ensures { λ r. ⌜ Reads (statusBytes) (now (state .entry)) (now (answer .entry)) (record { returned = r; answer = now (answer .exit) }) ⌝ }
+    ensures { λ r. ⌜ Reads statusBytes (now (state .entry)) (now (answer .entry)) (record { returned = r; answer = now (answer .exit) }) ⌝ }
 {
     let read = engine_bytes::from_bytes(state);
     if !read.fine {

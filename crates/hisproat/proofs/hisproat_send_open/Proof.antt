@@ -1,61 +1,52 @@
+-- `hisproat_send_open`: 8, 9, or the event done.
+-- Assumes nothing.
 use borrow.Author.Needs.{needs}
 use Rattle.hisproat.proofs.Crossings.{crosses-broken, crosses-short, crosses}
 use Rattle.hisproat.proofs.hisproat_send_open.Statement.{statement}
 use Rattle.hisproat.proofs.hisproat_send_open.Tie as tie
-use Rattle.hisproat.proofs.hisproat_send_open.Reads as reads
-use Rattle.hisproat.proofs.hisproat_send_open.Lts as lts
-use Rattle.engine.proofs.ConnectionEngine.send_open.Reads as send-open-reads
-use Rattle.engine_bytes.proofs.from_bytes.Reads as from-bytes-reads
-use Rattle.hisproat.proofs.answers.finish.Reads as finish-reads
-use Rattle.hisproat.proofs.answers.opening_sent.Reads as opening-sent-reads
 
--- src/lib.rt:215:9
 from-bytes-requires : tie.Need-from-bytes-requires
 from-bytes-requires c κs = search needs
 
--- src/lib.rt:217:9
 same-length : tie.Need-same-length
 same-length c = search needs
 
--- src/lib.rt:217:9
 returns : tie.Need-returns
 returns c = crosses-broken _ _ _ (c .before .before .from-bytes .ensures) _ (c .if1 .taken)
 
--- src/lib.rt:220:9
 same-length-2 : tie.Need-same-length-2
 same-length-2 c = search needs
 
--- src/lib.rt:220:9
 returns-2 : tie.Need-returns-2
 returns-2 c = crosses-short _ _ _ (c .before .before .before .from-bytes .ensures) _ (c .before .if1 .left) (c .if2 .taken)
 
--- src/lib.rt:223:38
 send-open-requires : tie.Need-send-open-requires
 send-open-requires c κs = search needs
 
--- src/lib.rt:223:9
 opening-sent-requires : tie.Need-opening-sent-requires
 opening-sent-requires c κs = search needs
 
--- src/lib.rt:224:5
 finish-requires : tie.Need-finish-requires
 finish-requires c κs = search needs
 
--- src/lib.rt:207:1
 same-length-3 : tie.Need-same-length-3
 same-length-3 c = search needs
 
--- src/lib.rt:207:1
 same-length-4 : tie.Need-same-length-4
 same-length-4 c = search needs
 
--- src/lib.rt:207:1
 same-length-5 : tie.Need-same-length-5
 same-length-5 c = search needs
 
--- src/lib.rt:207:1
 returns-3 : tie.Need-returns-3
-returns-3 c = crosses _ _ _ (c .before .before .before .before .before .before .before .before .before .before .before .before .before .before .before .before .from-bytes .ensures) _ (c .before .before .before .before .before .before .before .before .before .before .before .before .before .before .if1 .left) (c .before .before .before .before .before .before .before .before .before .before .before .before .before .if2 .left) _ _ _ _ _ _ _ _ (c .before .before .before .before .before .before .before .before .before .before .send-open .ensures) (c .before .before .before .before .before .before .before .opening-sent .ensures) (c .before .before .before .before .finish .ensures)
+returns-3 c =
+    let f = c .before .before .before .before in
+    let t = f .before .before .before in
+    let e = t .before .before .before in
+    let k = e .before .before .before in
+    let i = k .before in
+    let r = i .before .before in
+    crosses _ _ _ (r .from-bytes .ensures) _ (i .if1 .left) (k .if2 .left) _ _ _ _ _ _ _ _ (e .send-open .ensures) (t .opening-sent .ensures) (f .finish .ensures)
 
 pub hisproat-send-open-spec : {M : Type 1} → statement M
 hisproat-send-open-spec =

@@ -1,32 +1,25 @@
+-- `allocate_inner`: each answer in its numbers.
+-- Assumes nothing.
 use borrow.Author.Needs.{needs}
 use Rattle.hisproat.proofs.Telling.{channel-inner, no-channel-inner}
 use Rattle.hisproat.proofs.answers.allocate_inner.Statement.{statement}
 use Rattle.hisproat.proofs.answers.allocate_inner.Tie as tie
-use Rattle.hisproat.proofs.answers.allocate_inner.Reads as reads
-use Rattle.hisproat.proofs.answers.allocate_inner.Lts as lts
-use Rattle.hisproat.proofs.answers.plain.Reads as plain-reads
 
--- src/answers.rt:127:33
 enum-known-answer : tie.Need-enum-known-answer
 enum-known-answer c = search needs
 
--- src/answers.rt:130:22
 cast-t5 : tie.Need-cast-t5
 cast-t5 c = search needs
 
--- src/answers.rt:135:33
 enum-known-answer-2 : tie.Need-enum-known-answer-2
 enum-known-answer-2 c = search needs
 
--- src/answers.rt:135:39
 plain-requires : tie.Need-plain-requires
 plain-requires c κs = search needs
 
--- src/answers.rt:123:1
 returns : tie.Need-returns
 returns c = search (channel-inner, needs)
 
--- src/answers.rt:123:1
 returns-2 : tie.Need-returns-2
 returns-2 c = search (no-channel-inner, needs)
 

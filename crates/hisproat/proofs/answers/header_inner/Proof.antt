@@ -1,44 +1,34 @@
+-- `header_inner`: each answer in its numbers.
+-- Assumes nothing.
 use borrow.Author.Needs.{needs}
 use Rattle.hisproat.proofs.Telling.{amqp-inner, other-inner, no-header-inner}
 use Rattle.hisproat.proofs.answers.header_inner.Statement.{statement}
 use Rattle.hisproat.proofs.answers.header_inner.Tie as tie
-use Rattle.hisproat.proofs.answers.header_inner.Reads as reads
-use Rattle.hisproat.proofs.answers.header_inner.Lts as lts
-use Rattle.hisproat.proofs.answers.plain.Reads as plain-reads
 
--- src/answers.rt:107:34
 enum-told : tie.Need-enum-told
 enum-told c = search needs
 
--- src/answers.rt:107:34
 plain-requires : tie.Need-plain-requires
 plain-requires c κs = search needs
 
--- src/answers.rt:108:43
 enum-told-2 : tie.Need-enum-told-2
 enum-told-2 c = search needs
 
--- src/answers.rt:108:43
 plain-requires-2 : tie.Need-plain-requires-2
 plain-requires-2 c κs = search needs
 
--- src/answers.rt:109:31
 enum-known-answer : tie.Need-enum-known-answer
 enum-known-answer c = search needs
 
--- src/answers.rt:109:37
 plain-requires-3 : tie.Need-plain-requires-3
 plain-requires-3 c κs = search needs
 
--- src/answers.rt:103:1
 returns : tie.Need-returns
 returns c = search (amqp-inner, needs)
 
--- src/answers.rt:103:1
 returns-2 : tie.Need-returns-2
 returns-2 c = search (other-inner, needs)
 
--- src/answers.rt:103:1
 returns-3 : tie.Need-returns-3
 returns-3 c = search (no-header-inner, needs)
 

@@ -1,31 +1,25 @@
+-- `header_running`: each answer of a header.
+-- Assumes nothing.
 use borrow.Author.Needs.{needs}
 use Rattle.hisproat.proofs.Telling.{runs-amqp, runs-other, runs-not}
 use Rattle.hisproat.proofs.answers.header_running.Statement.{statement}
 use Rattle.hisproat.proofs.answers.header_running.Tie as tie
-use Rattle.hisproat.proofs.answers.header_running.Reads as reads
-use Rattle.hisproat.proofs.answers.header_running.Lts as lts
 
--- src/answers.rt:246:34
 enum-told : tie.Need-enum-told
 enum-told c = search needs
 
--- src/answers.rt:247:43
 enum-told-2 : tie.Need-enum-told-2
 enum-told-2 c = search needs
 
--- src/answers.rt:248:31
 enum-known-answer : tie.Need-enum-known-answer
 enum-known-answer c = search needs
 
--- src/answers.rt:242:1
 returns : tie.Need-returns
 returns c = search (runs-amqp, needs)
 
--- src/answers.rt:242:1
 returns-2 : tie.Need-returns-2
 returns-2 c = search (runs-other, needs)
 
--- src/answers.rt:242:1
 returns-3 : tie.Need-returns-3
 returns-3 c = search (runs-not, needs)
 

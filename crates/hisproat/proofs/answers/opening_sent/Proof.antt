@@ -1,28 +1,22 @@
+-- `opening_sent`: written, or refused.
+-- Assumes nothing.
 use borrow.Author.Needs.{needs}
 use Rattle.hisproat.proofs.Telling.{amounts-sent, amounts-unsent}
 use Rattle.hisproat.proofs.answers.opening_sent.Statement.{statement}
 use Rattle.hisproat.proofs.answers.opening_sent.Tie as tie
-use Rattle.hisproat.proofs.answers.opening_sent.Reads as reads
-use Rattle.hisproat.proofs.answers.opening_sent.Lts as lts
-use Rattle.hisproat.proofs.answers.written_inner.Reads as written-inner-reads
 
--- src/answers.rt:222:9
 written-inner-requires : tie.Need-written-inner-requires
 written-inner-requires c κs = search needs
 
--- src/answers.rt:224:24
 enum-known-answer : tie.Need-enum-known-answer
 enum-known-answer c = search needs
 
--- src/answers.rt:231:26
 enum-known-answer-2 : tie.Need-enum-known-answer-2
 enum-known-answer-2 c = search needs
 
--- src/answers.rt:217:1
 returns : tie.Need-returns
 returns c = search (amounts-sent, needs)
 
--- src/answers.rt:217:1
 returns-2 : tie.Need-returns-2
 returns-2 c = search (amounts-unsent, needs)
 
