@@ -1,18 +1,22 @@
-// Does an operation of a connection so many times over, for measuring what a call costs.
+// Does an operation of an engine, or of the connection inside it, so many times over, for measuring what an event and a call cost.
 //
-// Each line of standard input names an operation, how many sessions are open, from 1 to 256, and how many rounds there are:
+// Each line of standard input names what the operation is done on, `engine` or `connection`, the operation, how many sessions are open, from 1 to 256,
+// and how many rounds there are:
 //
 //   transfer  a Transfer is received, on each tied channel in turn
 //   pair      a session is deallocated and its channel allocated again, on each channel in turn
-//   open      an Open is received, each time on a connection that waits for it and has no session
-//   tick      a Transfer is received as above, and then an empty frame is written
+//   open      an Open is received, each time by the same hub, which waits for it and has no session
+//   tick      an empty frame is written; by a connection, after a Transfer was received as above
 //
-// The line is printed with the sum of the answers: the handles, for `pair` the channels too, for `tick` the bytes written too, for `open` the
-// idle-time-outs; and once the number of sessions, or for `open` the first channel.
-mod rounds;
+// The line is printed with the sum of the answers: for `transfer` the handles, for `pair` the handles and the channels, for `open` the idle-time-outs,
+// for `tick` the bytes written and the handles; and once the number of sessions, or for `open` the first channel.
+mod answers;
+mod calls;
+mod events;
 mod setting;
 mod words;
 
+use words::after;
 use words::part;
 use words::print;
 use words::print_number;
@@ -28,12 +32,28 @@ fn last_channel(n: u64) -> u8 {
     (n - 1) as u8
 }
 
-fn run(letter: u8, last: u8, rounds: u64, out: &mut [u8]) -> u64 {
+// Events of an engine
+fn run_events(letter: u8, last: u8, rounds: u64, out: &mut [u8]) -> u64 {
     match letter {
-        b't' => rounds::transfers(setting::with_sessions(last, out), last, rounds),
-        b'p' => rounds::pairs(setting::with_sessions(last, out), last, rounds),
-        b'o' => rounds::opens(setting::exchanged(out), rounds),
-        _ => rounds::ticks(setting::with_sessions(last, out), last, rounds, out),
+        b't' => events::transfers(setting::with_sessions(last, out), last, rounds, out),
+        b'p' => events::pairs(setting::with_sessions(last, out), last, rounds),
+        b'o' => events::opens(setting::exchanged(out), rounds, out),
+        _ => events::ticks(setting::with_sessions(last, out), rounds, out),
+    }
+}
+
+// Calls of the connection inside
+fn run_calls(letter: u8, last: u8, rounds: u64, out: &mut [u8]) -> u64 {
+    if letter == b'o' {
+        let waiting = setting::exchanged(out);
+        return calls::opens(waiting.connection(), rounds);
+    }
+    let engine = setting::with_sessions(last, out);
+    let hub = engine.connection();
+    match letter {
+        b't' => calls::transfers(hub, last, rounds),
+        b'p' => calls::pairs(hub, last, rounds),
+        _ => calls::ticks(hub, last, rounds, out),
     }
 }
 
@@ -48,12 +68,23 @@ fn letter(line: &[u8]) -> u8 {
     line[0]
 }
 
+fn run(line: &[u8], last: u8, rounds: u64, out: &mut [u8]) -> u64 {
+    let letter = letter(part(line, after(line, 0, b' '), line.len()));
+    if line.len() == 0 {
+        return 0;
+    }
+    if line[0] == b'c' {
+        return run_calls(letter, last, rounds, out);
+    }
+    run_events(letter, last, rounds, out)
+}
+
 fn run_line(line: &[u8], out: &mut [u8]) {
-    let sessions = words::after(line, 0, b' ');
-    let rounds = words::after(line, sessions, b' ');
+    let sessions = after(line, after(line, 0, b' '), b' ');
+    let rounds = after(line, sessions, b' ');
     let last = last_channel(words::number(part(line, sessions, words::find(line, sessions, b' '))));
     let sum = run(
-        letter(line),
+        line,
         last,
         words::number(part(line, rounds, line.len())),
         out,

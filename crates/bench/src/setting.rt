@@ -1,5 +1,5 @@
 // A hub with sessions, as the operations find it, and the frames that are handed to it.
-use connection::Connection;
+use engine::ConnectionEngine;
 use frame_encoder::IdleTimeOut;
 
 // An Open of container-id pad, max-frame-size 4,096, channel-max 255 and idle-time-out 30,000. The idle-time-out's last byte is at place 32.
@@ -108,37 +108,43 @@ pub(crate) fn set_last(frame: &mut [u8], b: u8) {
 }
 
 // A hub whose headers are exchanged, and which waits for the pad's Open.
-pub(crate) fn exchanged(out: &mut [u8]) -> Connection {
-    let made = Connection::listener(b"hub", 16384, 255, IdleTimeOut::Never);
-    let fresh = made.connection;
+pub(crate) fn exchanged(out: &mut [u8]) -> ConnectionEngine {
+    let made = ConnectionEngine::listener(b"hub", 16384, 255, IdleTimeOut::Never);
+    let fresh = made.engine;
     let sent = fresh.send_header(out);
-    let waiting = sent.connection;
+    let waiting = sent.engine;
     let received = waiting.receive_header(&[0x41, 0x4d, 0x51, 0x50, 0, 1, 0, 0]);
-    received.connection
+    received.engine
 }
 
-fn opened(out: &mut [u8]) -> Connection {
+fn opened(out: &mut [u8]) -> ConnectionEngine {
     let waiting = exchanged(out);
-    let received = waiting.receive_frame(&OPEN, 0);
-    let answering = received.connection;
+    let received = waiting.on_incoming(&OPEN, 0, b"", out);
+    let answering = received.engine;
     let sent = answering.send_open(out);
-    sent.connection
+    sent.engine
 }
 
-fn begun(hub: Connection, channel: u8, handle: u32) -> Connection {
+fn begun(hub: ConnectionEngine, channel: u8, handle: u32, out: &mut [u8]) -> ConnectionEngine {
     let mut frame = BEGIN;
     set_channel(&mut frame, channel);
-    let received = hub.receive_frame(&frame, handle);
-    received.connection
+    let received = hub.on_incoming(&frame, handle, b"", out);
+    received.engine
 }
 
 // A hub with a session on each channel from 0 to the last. The handles are 1000 and on.
-pub(crate) fn with_sessions(last: u8, out: &mut [u8]) -> Connection {
+pub(crate) fn with_sessions(last: u8, out: &mut [u8]) -> ConnectionEngine {
     let mut hub = opened(out);
     let mut k: u32 = 0;
     while k <= (last as u32) {
-        hub = begun(hub, k as u8, 1000 + k);
+        hub = begun(hub, k as u8, 1000 + k, out);
         k += 1;
     }
     hub
+}
+
+// How many sessions a hub has.
+pub(crate) fn sessions(hub: ConnectionEngine) -> u64 {
+    let connection = hub.connection();
+    connection.taken_count() as u64
 }

@@ -1,15 +1,17 @@
--- `with_sessions` is safe and ends: each turn begins the session on the next channel.
+-- `with_sessions` is safe and ends: each turn begins the session on the next channel. The lent bytes stay as many as they were.
 -- Assumes nothing.
 use borrow.Author.Needs.{needs}
+use mathlib.Core.Path.{_≡_}
 use Prim.Native.Nat.{_-_, _≤_}
+use lib.ListN.{length}
 use Rattle.bench.proofs.setting.with_sessions.Statement.{statement}
 use Rattle.bench.proofs.setting.with_sessions.Tie as tie
 
 abbrev Inv-loop : tie.InvT-loop
-Inv-loop last out hub₀ k₀ hub k = k ≤ 256
+Inv-loop last out₀ hub₀ k₀ out hub k = (k ≤ 256) × (length out ≡ length out₀)
 
 abbrev μ-loop : tie.MeasureT-loop
-μ-loop last out hub₀ k₀ hub k = 256 - k
+μ-loop last out₀ hub₀ k₀ out hub k = 256 - k
 
 opened-requires : tie.Need-opened-requires Inv-loop μ-loop
 opened-requires c κs = search needs

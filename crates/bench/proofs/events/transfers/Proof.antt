@@ -1,16 +1,18 @@
--- `transfers` is safe and ends: the rounds that are left fall. The frame stays as long as it was.
+-- `transfers` is safe and ends: the rounds that are left fall. The frame and the lent bytes stay as long as they were.
 -- Assumes nothing.
 use borrow.Author.Needs.{needs}
 use mathlib.Core.Path.{_≡_}
 use lib.ListN.{length}
-use Rattle.bench.proofs.rounds.transfers.Statement.{statement}
-use Rattle.bench.proofs.rounds.transfers.Tie as tie
+use Rattle.bench.proofs.events.transfers.Statement.{statement}
+use Rattle.bench.proofs.events.transfers.Tie as tie
 
 abbrev Inv-loop : tie.InvT-loop
-Inv-loop last rounds frame₀ connection₀ sum₀ channel₀ left₀ frame connection sum channel left = length frame ≡ 26
+Inv-loop last rounds out₀ frame₀ engine₀ sum₀ channel₀ left₀ t12 out frame engine sum channel left =
+    (length frame ≡ 26) × (length out ≡ length out₀)
 
 abbrev μ-loop : tie.MeasureT-loop
-μ-loop last rounds frame₀ connection₀ sum₀ channel₀ left₀ frame connection sum channel left = left
+μ-loop last rounds out₀ frame₀ engine₀ sum₀ channel₀ left₀ t12 out frame engine sum channel left =
+    left
 
 loop-holds : tie.Need-loop-holds Inv-loop μ-loop
 loop-holds c = search needs
@@ -21,11 +23,14 @@ slice-aggregate-set-channel c = search needs
 set-channel-requires : tie.Need-set-channel-requires Inv-loop μ-loop
 set-channel-requires c κs = search needs
 
-slice-aggregate-receive-frame : tie.Need-slice-aggregate-receive-frame Inv-loop μ-loop
-slice-aggregate-receive-frame c = search needs
+slice-aggregate-on-incoming : tie.Need-slice-aggregate-on-incoming Inv-loop μ-loop
+slice-aggregate-on-incoming c = search needs
 
-receive-frame-requires : tie.Need-receive-frame-requires Inv-loop μ-loop
-receive-frame-requires c κs = search needs
+slice-aggregate-on-incoming-2 : tie.Need-slice-aggregate-on-incoming-2 Inv-loop μ-loop
+slice-aggregate-on-incoming-2 c = search needs
+
+on-incoming-requires : tie.Need-on-incoming-requires Inv-loop μ-loop
+on-incoming-requires c κs = search needs
 
 handle-of-requires : tie.Need-handle-of-requires Inv-loop μ-loop
 handle-of-requires c κs = search needs
@@ -45,14 +50,14 @@ loop-less c = search needs
 loop-again : tie.Need-loop-again Inv-loop μ-loop
 loop-again c = search needs
 
-taken-count-requires : tie.Need-taken-count-requires Inv-loop μ-loop
-taken-count-requires c κs = search needs
-
-cast-plus : tie.Need-cast-plus Inv-loop μ-loop
-cast-plus c = search needs
+sessions-requires : tie.Need-sessions-requires Inv-loop μ-loop
+sessions-requires c κs = search needs
 
 plus-requires-2 : tie.Need-plus-requires-2 Inv-loop μ-loop
 plus-requires-2 c κs = search needs
+
+same-length : tie.Need-same-length Inv-loop μ-loop
+same-length c = search needs
 
 returns : tie.Need-returns Inv-loop μ-loop
 returns c = search needs
@@ -66,15 +71,16 @@ transfers-spec =
     loop-holds
     slice-aggregate-set-channel
     set-channel-requires
-    slice-aggregate-receive-frame
-    receive-frame-requires
+    slice-aggregate-on-incoming
+    slice-aggregate-on-incoming-2
+    on-incoming-requires
     handle-of-requires
     plus-requires
     next-requires
     sub-left
     loop-less
     loop-again
-    taken-count-requires
-    cast-plus
+    sessions-requires
     plus-requires-2
+    same-length
     returns)

@@ -3,8 +3,8 @@
 use borrow.Author.Needs.{needs}
 use mathlib.Core.Path.{_≡_}
 use lib.ListN.{length}
-use Rattle.bench.proofs.rounds.ticks.Statement.{statement}
-use Rattle.bench.proofs.rounds.ticks.Tie as tie
+use Rattle.bench.proofs.calls.ticks.Statement.{statement}
+use Rattle.bench.proofs.calls.ticks.Tie as tie
 
 abbrev Inv-loop : tie.InvT-loop
 Inv-loop last rounds out₀ frame₀ connection₀ sum₀ channel₀ left₀ out frame connection sum channel left =

@@ -1,14 +1,16 @@
 -- `pairs` is safe and ends: the rounds that are left fall.
 -- Assumes nothing.
 use borrow.Author.Needs.{needs}
-use Rattle.bench.proofs.rounds.pairs.Statement.{statement}
-use Rattle.bench.proofs.rounds.pairs.Tie as tie
+use Rattle.bench.proofs.events.pairs.Statement.{statement}
+use Rattle.bench.proofs.events.pairs.Tie as tie
 
 abbrev Inv-loop : tie.InvT-loop
-Inv-loop last rounds connection₀ sum₀ channel₀ left₀ connection sum channel left = Unit {0}
+Inv-loop last rounds engine₀ sum₀ channel₀ left₀ engine sum channel left =
+    Unit {0}
 
 abbrev μ-loop : tie.MeasureT-loop
-μ-loop last rounds connection₀ sum₀ channel₀ left₀ connection sum channel left = left
+μ-loop last rounds engine₀ sum₀ channel₀ left₀ engine sum channel left =
+    left
 
 loop-holds : tie.Need-loop-holds Inv-loop μ-loop
 loop-holds c = search needs
@@ -16,8 +18,8 @@ loop-holds c = search needs
 wide-requires : tie.Need-wide-requires Inv-loop μ-loop
 wide-requires c κs = search needs
 
-deallocate-session-requires : tie.Need-deallocate-session-requires Inv-loop μ-loop
-deallocate-session-requires c κs = search needs
+on-deallocate-requires : tie.Need-on-deallocate-requires Inv-loop μ-loop
+on-deallocate-requires c κs = search needs
 
 held-requires : tie.Need-held-requires Inv-loop μ-loop
 held-requires c κs = search needs
@@ -25,8 +27,8 @@ held-requires c κs = search needs
 plus-requires : tie.Need-plus-requires Inv-loop μ-loop
 plus-requires c κs = search needs
 
-allocate-session-requires : tie.Need-allocate-session-requires Inv-loop μ-loop
-allocate-session-requires c κs = search needs
+on-allocate-requires : tie.Need-on-allocate-requires Inv-loop μ-loop
+on-allocate-requires c κs = search needs
 
 channel-of-requires : tie.Need-channel-of-requires Inv-loop μ-loop
 channel-of-requires c κs = search needs
@@ -46,11 +48,8 @@ loop-less c = search needs
 loop-again : tie.Need-loop-again Inv-loop μ-loop
 loop-again c = search needs
 
-taken-count-requires : tie.Need-taken-count-requires Inv-loop μ-loop
-taken-count-requires c κs = search needs
-
-cast-plus : tie.Need-cast-plus Inv-loop μ-loop
-cast-plus c = search needs
+sessions-requires : tie.Need-sessions-requires Inv-loop μ-loop
+sessions-requires c κs = search needs
 
 plus-requires-3 : tie.Need-plus-requires-3 Inv-loop μ-loop
 plus-requires-3 c κs = search needs
@@ -66,17 +65,16 @@ pairs-spec =
     μ-loop
     loop-holds
     wide-requires
-    deallocate-session-requires
+    on-deallocate-requires
     held-requires
     plus-requires
-    allocate-session-requires
+    on-allocate-requires
     channel-of-requires
     plus-requires-2
     next-requires
     sub-left
     loop-less
     loop-again
-    taken-count-requires
-    cast-plus
+    sessions-requires
     plus-requires-3
     returns)

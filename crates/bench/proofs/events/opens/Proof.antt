@@ -1,16 +1,18 @@
--- `opens` is safe and ends: the rounds that are left fall. The frame stays as long as it was.
+-- `opens` is safe and ends: the rounds that are left fall. The frame and the lent bytes stay as long as they were.
 -- Assumes nothing.
 use borrow.Author.Needs.{needs}
 use mathlib.Core.Path.{_≡_}
 use lib.ListN.{length}
-use Rattle.bench.proofs.rounds.opens.Statement.{statement}
-use Rattle.bench.proofs.rounds.opens.Tie as tie
+use Rattle.bench.proofs.events.opens.Statement.{statement}
+use Rattle.bench.proofs.events.opens.Tie as tie
 
 abbrev Inv-loop : tie.InvT-loop
-Inv-loop waiting rounds frame₀ connection₀ sum₀ b₀ left₀ frame connection sum b left = length frame ≡ 33
+Inv-loop waiting rounds out₀ frame₀ engine₀ sum₀ b₀ left₀ t13 out frame engine sum b left =
+    (length frame ≡ 33) × (length out ≡ length out₀)
 
 abbrev μ-loop : tie.MeasureT-loop
-μ-loop waiting rounds frame₀ connection₀ sum₀ b₀ left₀ frame connection sum b left = left
+μ-loop waiting rounds out₀ frame₀ engine₀ sum₀ b₀ left₀ t13 out frame engine sum b left =
+    left
 
 loop-holds : tie.Need-loop-holds Inv-loop μ-loop
 loop-holds c = search needs
@@ -21,11 +23,14 @@ slice-aggregate-set-last c = search needs
 set-last-requires : tie.Need-set-last-requires Inv-loop μ-loop
 set-last-requires c κs = search needs
 
-slice-aggregate-receive-frame : tie.Need-slice-aggregate-receive-frame Inv-loop μ-loop
-slice-aggregate-receive-frame c = search needs
+slice-aggregate-on-incoming : tie.Need-slice-aggregate-on-incoming Inv-loop μ-loop
+slice-aggregate-on-incoming c = search needs
 
-receive-frame-requires : tie.Need-receive-frame-requires Inv-loop μ-loop
-receive-frame-requires c κs = search needs
+slice-aggregate-on-incoming-2 : tie.Need-slice-aggregate-on-incoming-2 Inv-loop μ-loop
+slice-aggregate-on-incoming-2 c = search needs
+
+on-incoming-requires : tie.Need-on-incoming-requires Inv-loop μ-loop
+on-incoming-requires c κs = search needs
 
 idle-of-requires : tie.Need-idle-of-requires Inv-loop μ-loop
 idle-of-requires c κs = search needs
@@ -45,14 +50,17 @@ loop-less c = search needs
 loop-again : tie.Need-loop-again Inv-loop μ-loop
 loop-again c = search needs
 
-allocate-session-requires : tie.Need-allocate-session-requires Inv-loop μ-loop
-allocate-session-requires c κs = search needs
+on-allocate-requires : tie.Need-on-allocate-requires Inv-loop μ-loop
+on-allocate-requires c κs = search needs
 
 channel-of-requires : tie.Need-channel-of-requires Inv-loop μ-loop
 channel-of-requires c κs = search needs
 
 plus-requires-2 : tie.Need-plus-requires-2 Inv-loop μ-loop
 plus-requires-2 c κs = search needs
+
+same-length : tie.Need-same-length Inv-loop μ-loop
+same-length c = search needs
 
 returns : tie.Need-returns Inv-loop μ-loop
 returns c = search needs
@@ -66,15 +74,17 @@ opens-spec =
     loop-holds
     slice-aggregate-set-last
     set-last-requires
-    slice-aggregate-receive-frame
-    receive-frame-requires
+    slice-aggregate-on-incoming
+    slice-aggregate-on-incoming-2
+    on-incoming-requires
     idle-of-requires
     plus-requires
     next-requires
     sub-left
     loop-less
     loop-again
-    allocate-session-requires
+    on-allocate-requires
     channel-of-requires
     plus-requires-2
+    same-length
     returns)

@@ -1,39 +1,15 @@
-// The operations, each so many times over on the connection that the one before gave back. Each answers a sum of what the calls answered.
+// The operations as calls of a connection, each so many times over on the connection that the one before gave back. Each answers a sum of what the
+// calls answered.
+use crate::answers::channel_of;
+use crate::answers::handle_of;
+use crate::answers::held;
+use crate::answers::idle_of;
+use crate::answers::next;
+use crate::answers::plus;
+use crate::answers::wide;
+use crate::answers::wrote;
 use crate::setting;
-use channels::Held;
-use connection::AllocateAnswer;
 use connection::Connection;
-use connection::TickAnswer;
-use endpoint::FrameAnswer;
-
-fn plus(a: u64, b: u64) -> u64 {
-    std::num::wrapping_add_u64(a, b)
-}
-
-fn wide(k: u8) -> u16 {
-    k as u16
-}
-
-// The channel after k; the first one after the last.
-fn next(k: u8, last: u8) -> u8 {
-    if k < last {
-        return k + 1;
-    }
-    0
-}
-
-fn handle_of(answer: FrameAnswer) -> u64 {
-    match answer {
-        FrameAnswer::Forward {
-            consumed: _,
-            code: _,
-            handle,
-            from: _,
-            len: _,
-        } => handle as u64,
-        _ => 0,
-    }
-}
 
 // A Transfer is received, on each channel in turn.
 pub(crate) fn transfers(hub: Connection, last: u8, rounds: u64) -> u64 {
@@ -52,20 +28,6 @@ pub(crate) fn transfers(hub: Connection, last: u8, rounds: u64) -> u64 {
         left -= 1;
     }
     plus(sum, connection.taken_count() as u64)
-}
-
-fn held(answer: Held) -> u64 {
-    match answer {
-        Held::Handle(handle) => handle as u64,
-        Held::Nothing => 0,
-    }
-}
-
-fn channel_of(answer: AllocateAnswer) -> u64 {
-    match answer {
-        AllocateAnswer::Channel(k) => k as u64,
-        AllocateAnswer::Refused(_) => 1000,
-    }
 }
 
 // The session on each channel in turn is deallocated, and its channel allocated again.
@@ -89,16 +51,6 @@ pub(crate) fn pairs(hub: Connection, last: u8, rounds: u64) -> u64 {
     plus(sum, connection.taken_count() as u64)
 }
 
-fn idle_of(answer: FrameAnswer) -> u64 {
-    match answer {
-        FrameAnswer::Opened {
-            consumed: _,
-            idle_time_out,
-        } => idle_time_out as u64,
-        _ => 0,
-    }
-}
-
 // An Open is received, each time by the same hub, which waits for it.
 pub(crate) fn opens(waiting: Connection, rounds: u64) -> u64 {
     let mut frame = setting::OPEN;
@@ -118,14 +70,6 @@ pub(crate) fn opens(waiting: Connection, rounds: u64) -> u64 {
     let given = connection.allocate_session(2000);
     let answer = given.answer;
     plus(sum, channel_of(answer))
-}
-
-fn wrote(answer: TickAnswer) -> u64 {
-    match answer {
-        TickAnswer::Wrote(n) => n as u64,
-        TickAnswer::Stop => 0,
-        TickAnswer::Refused(_) => 0,
-    }
 }
 
 // A Transfer is received, on each channel in turn, and then an empty frame is written. Without the Transfer the compiler would see that a tick changes

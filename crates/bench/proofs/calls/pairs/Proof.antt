@@ -1,0 +1,82 @@
+-- `pairs` is safe and ends: the rounds that are left fall.
+-- Assumes nothing.
+use borrow.Author.Needs.{needs}
+use Rattle.bench.proofs.calls.pairs.Statement.{statement}
+use Rattle.bench.proofs.calls.pairs.Tie as tie
+
+abbrev Inv-loop : tie.InvT-loop
+Inv-loop last rounds connection₀ sum₀ channel₀ left₀ connection sum channel left = Unit {0}
+
+abbrev μ-loop : tie.MeasureT-loop
+μ-loop last rounds connection₀ sum₀ channel₀ left₀ connection sum channel left = left
+
+loop-holds : tie.Need-loop-holds Inv-loop μ-loop
+loop-holds c = search needs
+
+wide-requires : tie.Need-wide-requires Inv-loop μ-loop
+wide-requires c κs = search needs
+
+deallocate-session-requires : tie.Need-deallocate-session-requires Inv-loop μ-loop
+deallocate-session-requires c κs = search needs
+
+held-requires : tie.Need-held-requires Inv-loop μ-loop
+held-requires c κs = search needs
+
+plus-requires : tie.Need-plus-requires Inv-loop μ-loop
+plus-requires c κs = search needs
+
+allocate-session-requires : tie.Need-allocate-session-requires Inv-loop μ-loop
+allocate-session-requires c κs = search needs
+
+channel-of-requires : tie.Need-channel-of-requires Inv-loop μ-loop
+channel-of-requires c κs = search needs
+
+plus-requires-2 : tie.Need-plus-requires-2 Inv-loop μ-loop
+plus-requires-2 c κs = search needs
+
+next-requires : tie.Need-next-requires Inv-loop μ-loop
+next-requires c κs = search needs
+
+sub-left : tie.Need-sub-left Inv-loop μ-loop
+sub-left c = search needs
+
+loop-less : tie.Need-loop-less Inv-loop μ-loop
+loop-less c = search needs
+
+loop-again : tie.Need-loop-again Inv-loop μ-loop
+loop-again c = search needs
+
+taken-count-requires : tie.Need-taken-count-requires Inv-loop μ-loop
+taken-count-requires c κs = search needs
+
+cast-plus : tie.Need-cast-plus Inv-loop μ-loop
+cast-plus c = search needs
+
+plus-requires-3 : tie.Need-plus-requires-3 Inv-loop μ-loop
+plus-requires-3 c κs = search needs
+
+returns : tie.Need-returns Inv-loop μ-loop
+returns c = search needs
+
+pub pairs-spec : {M : Type 1} → statement M
+pairs-spec =
+    tie.close
+    (tie.spec
+    Inv-loop
+    μ-loop
+    loop-holds
+    wide-requires
+    deallocate-session-requires
+    held-requires
+    plus-requires
+    allocate-session-requires
+    channel-of-requires
+    plus-requires-2
+    next-requires
+    sub-left
+    loop-less
+    loop-again
+    taken-count-requires
+    cast-plus
+    plus-requires-3
+    returns)
