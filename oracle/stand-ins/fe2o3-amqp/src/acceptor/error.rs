@@ -1,0 +1,1 @@
+//! Errors of acceptors are not here.

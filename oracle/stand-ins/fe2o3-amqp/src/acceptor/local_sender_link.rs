@@ -1,0 +1,1 @@
+//! Links are not here.

@@ -1,0 +1,1 @@
+//! Links' endpoints are not here.

@@ -1,0 +1,1 @@
+//! Consumers of links are not here.

@@ -1,0 +1,1 @@
+//! Producers of links are not here.
