@@ -4,6 +4,7 @@ pub mod Counting
 pub mod Steps
 pub mod Laws
 pub mod Marking
+pub mod Sharing
 pub mod Parts
 pub mod Writing
 pub mod Reading

@@ -50,9 +50,10 @@ module _ (s : List ℕ) where
         let m : suc (left - 1) ≡ left = omega arith in
         drop-cons s (left - 1) 0 (omega arith) ∙ ap₂ (λ x n. x ∷ drop n s) (sym e) m
 
-    pub link-twice : getD seen i false ≡ true → Links s (record { fine = false; links = links; head = head })
+    pub link-twice : getD seen i false ≡ true → Links s (record { fine = false; links = links; marked = seen; head = head })
     link-twice t = record {
       yes = λ q. apart (cc);
+      marks = λ q. apart (cc);
       no = λ q f.
           let a : count i (drop (left - 1) s) ≡ one (eqb i i) + count i (drop left s) = ap (count i) drop-is in
           let b : one (eqb i i) ≡ 1 = ap one (eq-eqb i i refl) in
@@ -78,11 +79,15 @@ module _ (s : List ℕ) where
           | no q ↦ rw (ne-eqb i j (λ p. q (sym p)), getD-set-other seen i j true false q) (omega (arith, inv .4 j))
         ]
 
-  pub link-all : (links : List ℕ) (seen : List Bool) (head left : ℕ) → left ≤ 0 → LinkedFrom s links seen head left → Links s (record { fine = true; links = links; head = head })
+  pub link-all : (links : List ℕ) (seen : List Bool) (head left : ℕ) → left ≤ 0 → LinkedFrom s links seen head left → Links s (record { fine = true; links = links; marked = seen; head = head })
   link-all links seen head left h inv =
       let z : left ≡ 0 = omega arith in
       let n : length s ≡ length s - left = omega arith in
-      record { yes = λ q. ap (chain links head) n ∙ inv .3 ∙ ap (λ k. drop k s) z; no = λ q. apart (cc) }
+      record {
+        yes = λ q. ap (chain links head) n ∙ inv .3 ∙ ap (λ k. drop k s) z;
+        marks = λ q j. sym (ap (λ k. count j (drop k s)) z) ∙ inv .4 j;
+        no = λ q. apart (cc);
+      }
 
 -- ---- the bytes of a list
 
@@ -119,7 +124,7 @@ pub two-long : (s : List ℕ) → 2 ≤ length s → 2 ≡ length (take 2 s)
 two-long s h = sym (length-take-le 2 s h)
 
 free-no : (s : List ℕ) (r : Free) → r .fine ≡ false → r .left ≡ 0 → ((l : List ℕ) → length l ≤ 256 → ((k : ℕ) → count k l ≤ 1) → s ≡ listBytes l → ⊥) → ReadsFree s r
-free-no s r e z f = record { yes = λ q. apart (cc); few = omega arith; no = λ q. f }
+free-no s r e z f = record { yes = λ q. apart (cc); marks = λ q. apart (cc); few = omega arith; no = λ q. f }
 
 module _ (s : List ℕ) (r : Free) (bad : (r .fine ≡ false) × (r .left ≡ 0)) where
   pub free-size : (length s ≡ 258 → ⊥) → ReadsFree s r
@@ -160,19 +165,23 @@ module _ (s : List ℕ) (size : length s ≡ 258) (octets : Octets s) (n : ℕ) 
       let a : take (258 - (2 + n)) (drop (2 + n) s) ≡ drop (2 + n) s = take-all (258 - (2 + n)) (drop (2 + n) s) (omega arith) in
       sym a ∙ t .yes refl ∙ ap zeros (ap length a ∙ l)
 
+  chain-is : (r : Linked) → Links (take (2 + n - 2) (drop 2 s)) r → r .fine ≡ true → chain (r .links) (r .head) n ≡ take (2 + n - 2) (drop 2 s)
+  chain-is r is f = ap (chain (r .links) (r .head)) (sym body-long) ∙ is .yes f
+
   pub free-read :
       (b : Bool) → TellsZeros (take (258 - (2 + n)) (drop (2 + n) s)) b → b ≡ true → (r : Linked) → Links (take (2 + n - 2) (drop 2 s)) r
-      → ReadsFree s (record { fine = r .fine; links = r .links; head = r .head; left = n })
+      → ReadsFree s (record { fine = r .fine; links = r .links; marked = r .marked; head = r .head; left = n })
   free-read b t q r is = record {
     yes = λ f.
         let z = rest-are (rw q at t) in
-        let c : chain (r .links) (r .head) n ≡ take n (drop 2 s) = ap (chain (r .links) (r .head)) (sym body-long) ∙ is .yes f ∙ body-is in
+        let c : chain (r .links) (r .head) n ≡ take n (drop 2 s) = chain-is r is f ∙ body-is in
         let l : length (chain (r .links) (r .head) n) ≡ n = chain-length (r .links) (r .head) n in
         let w : drop 2 s ≡ chain (r .links) (r .head) n ++ zeros (256 - n) =
         sym (take-append-drop n (drop 2 s)) ∙ ap₂ (λ x y. x ++ y) (sym c) (drop-drop n 2 s ∙ z) in
         sym (take-append-drop 2 s)
         ∙ ap₂ (λ x y. x ++ y) two-are w
         ∙ ap (λ k. bytesOf 2 k ++ (chain (r .links) (r .head) n ++ zeros (256 - k))) (sym l);
+    marks = λ f. record { marks = λ k. ap (count k) (chain-is r is f) ∙ is .marks f k };
     few = few;
     no = λ f l short once i.
         is .no f (λ k. let a : take (2 + n - 2) (drop 2 s) ≡ l = body-is ∙ list-numbers s l i n (e ∙ list-count s l i short) in omega (arith, ap (count k) a, once k));

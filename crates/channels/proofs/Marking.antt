@@ -61,7 +61,7 @@ walk-step links marked k left next n l h e j = rw (n, chain-pop links k left (om
   | no q ↦ rw (ne-eqb k j (λ p. q (sym p)), getD-set-other marked k j true false q) (omega arith)
 ])
 
-marked-if-held : (t : Handles) (j : ℕ) → isTaken (handlesSay t j) ≡ one (getD (t .held) j false)
+pub marked-if-held : (t : Handles) (j : ℕ) → isTaken (handlesSay t j) ≡ one (getD (t .held) j false)
 unfolding handlesSay
 marked-if-held t j = at (getD (t .held) j false)
   where

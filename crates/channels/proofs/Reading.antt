@@ -57,12 +57,21 @@ unread s r u h = record { yes = λ e. let b = u .bad in apart (cc); no = λ e. h
 pub handles-short : (s : List ℕ) (r : HandlesRead) → (length s ≡ 1280 → ⊥) → Unread r → ReadsHandles s r
 handles-short s r h u = unread s r u (λ f e. h (ap length e ∙ length-handles f))
 
--- the bytes of k places are those of the handles
-abbrev pub PlacesRead : List ℕ → List Bool → List ℕ → ℕ → Type 0
-PlacesRead s marks handles k = (k ≤ 256) × (length marks ≡ 256) × (length handles ≡ 256) × (take (5 * k) s ≡ places 0 k (handlesSay (record { held = marks; handles = handles })))
+-- the bytes of k places are those of the handles, and no place from there on has one
+pub record PlacesRead (s : List ℕ) (marks : List Bool) (handles : List ℕ) (k : ℕ) : Type 0 where
+  pub within : k ≤ 256
+  pub marks-long : length marks ≡ 256
+  pub handles-long : length handles ≡ 256
+  pub read : take (5 * k) s ≡ places 0 k (handlesSay (record { held = marks; handles = handles }))
+  pub later : (i : ℕ) → k ≤ i → getD marks i false ≡ false
+
+none-marked : (n i : ℕ) → getD (replicate n false) i false ≡ false
+none-marked zero i = refl
+none-marked (suc n) zero = refl
+none-marked (suc n) (suc i) = none-marked n i
 
 pub places-unread : (s : List ℕ) → PlacesRead s (replicate 256 false) (replicate 256 0) 0
-places-unread s = (omega arith, refl, refl, refl)
+places-unread s = record { within = omega arith; marks-long = refl; handles-long = refl; read = refl; later = λ i l. none-marked 256 i }
 
 module _ (s : List ℕ) (k : ℕ) (room : length s ≡ 1280) (less : k < 256) (place : May) (is : ReadsMay (take (5 * k + 5 - 5 * k) (drop (5 * k) s)) place) where
   part-is : take (5 * k + 5 - 5 * k) (drop (5 * k) s) ≡ take 5 (drop (5 * k) s)
@@ -83,29 +92,58 @@ module _ (s : List ℕ) (k : ℕ) (room : length s ≡ 1280) (less : k < 256) (p
           let a : take 5 (drop (5 * k) s) ≡ may 4 (f (0 + k)) = ap (λ l. take 5 (drop (5 * k) l)) q ∙ place-at 256 0 k f less in
           is .no 4 (omega arith) e (f (0 + k)) (part-is ∙ a)
 
-  pub place-next :
-      (marks : List Bool) (handles : List ℕ) → place .fine ≡ true → PlacesRead s marks handles k → PlacesRead s (set marks k (place .there)) (set handles k (place .number)) (k + 1)
-  unfolding handlesSay
-  place-next marks handles e inv =
-      let f = handlesSay (record { held = marks; handles = handles }) in
-      let g = handlesSay (record { held = set marks k (place .there); handles = set handles k (place .number) }) in
-      let old : (i : ℕ) → i < 0 + k → f i ≡ g i =
-      λ i l. let n : i ≡ k → ⊥ = λ q. omega arith in rw (getD-set-other marks k i (place .there) false n, getD-set-other handles k i (place .number) 0 n) in
-      let new : g k ≡ held (place .there) (place .number) = rw (getD-set-same marks k (place .there) false (omega arith), getD-set-same handles k (place .number) 0 (omega arith)) in
-      let p : take 5 (drop (5 * k) s) ≡ may 4 (g (0 + k)) = sym part-is ∙ is .yes 4 (omega arith) part-long e ∙ ap (may 4) (sym new) ∙ ap (λ i. may 4 (g i)) (sym (zero-add k)) in
-      let n : 5 * (k + 1) ≡ 5 * k + 5 = omega arith in (
-        omega arith,
-        length-set marks k (place .there) ∙ inv .1,
-        length-set handles k (place .number) ∙ inv .2,
-        ap (λ i. take i s) n ∙ take-add (5 * k) 5 s ∙ ap₂ (λ a b. a ++ b) (inv .3 ∙ same-places k 0 f g old) p ∙ sym (places-more k 0 g) ∙ ap (λ i. places 0 i g) (sym (add-one k)),
-      )
+  module _ (marks : List Bool) (handles : List ℕ) (e : place .fine ≡ true) (inv : PlacesRead s marks handles k) where
+    -- one more place, where the handles are the same up to there
+    more-read :
+        (marks′ : List Bool) (handles′ : List ℕ) → ((i : ℕ) → i < k → handlesSay (record { held = marks; handles = handles }) i ≡ handlesSay (record { held = marks′; handles = handles′ }) i)
+        → handlesSay (record { held = marks′; handles = handles′ }) k ≡ held (place .there) (place .number) → take (5 * (k + 1)) s ≡ places 0 (k + 1) (handlesSay (record { held = marks′; handles = handles′ }))
+    more-read marks′ handles′ old new =
+        let g = handlesSay (record { held = marks′; handles = handles′ }) in
+        let p : take 5 (drop (5 * k) s) ≡ may 4 (g (0 + k)) = sym part-is ∙ is .yes 4 (omega arith) part-long e ∙ ap (may 4) (sym new) ∙ ap (λ i. may 4 (g i)) (sym (zero-add k)) in
+        let n : 5 * (k + 1) ≡ 5 * k + 5 = omega arith in
+        ap (λ i. take i s) n ∙ take-add (5 * k) 5 s ∙ ap₂ (λ a b. a ++ b) (inv .read ∙ same-places k 0 (handlesSay (record { held = marks; handles = handles })) g (λ i l. old i (omega arith))) p
+        ∙ sym (places-more k 0 g) ∙ ap (λ i. places 0 i g) (sym (add-one k))
+
+    place-there : place .there ≡ true → PlacesRead s (set marks k true) (set handles k (place .number)) (k + 1)
+    unfolding handlesSay
+    place-there t =
+        let long : length marks ≡ 256 = inv .marks-long in
+        let all : length handles ≡ 256 = inv .handles-long in
+        record {
+          within = omega arith;
+          marks-long = length-set marks k true ∙ inv .marks-long;
+          handles-long = length-set handles k (place .number) ∙ inv .handles-long;
+          read =
+              more-read (set marks k true) (set handles k (place .number))
+              (λ i l. let n : i ≡ k → ⊥ = λ q. omega arith in rw (getD-set-other marks k i true false n, getD-set-other handles k i (place .number) 0 n))
+              (rw (getD-set-same marks k true false (omega arith), getD-set-same handles k (place .number) 0 (omega arith), t));
+          later = λ i l. let n : i ≡ k → ⊥ = λ q. omega arith in getD-set-other marks k i true false n ∙ inv .later i (omega arith);
+        }
+
+    place-absent : place .there ≡ false → PlacesRead s marks handles (k + 1)
+    unfolding handlesSay
+    place-absent t = record {
+      within = omega arith;
+      marks-long = inv .marks-long;
+      handles-long = inv .handles-long;
+      read = more-read marks handles (λ i l. refl) (rw (inv .later k (omega arith), t));
+      later = λ i l. inv .later i (omega arith);
+    }
+
+    -- as they come out of the test
+    pub place-put : (marks′ : List Bool) (handles′ : List ℕ) → place .there ≡ true → marks′ ≡ set marks k true → handles′ ≡ set handles k (place .number) → PlacesRead s marks′ handles′ (k + 1)
+    place-put marks′ handles′ t p q = rw (p, q) (place-there t)
+
+    pub place-passed : (marks′ : List Bool) (handles′ : List ℕ) → place .there ≡ false → marks′ ≡ marks → handles′ ≡ handles → PlacesRead s marks′ handles′ (k + 1)
+    place-passed marks′ handles′ t p q = rw (p, q) (place-absent t)
 
 pub places-read : (s : List ℕ) (marks : List Bool) (handles : List ℕ) (k : ℕ) → length s ≡ 1280 → 256 ≤ k → PlacesRead s marks handles k → ReadsHandles s (record { fine = true; handles = record { held = marks; handles = handles } })
 unfolding handlesBytes
 places-read s marks handles k l h inv =
+    let w : k ≤ 256 = inv .within in
     let q : k ≡ 256 = omega arith in
     record {
-      yes = λ e. sym (take-all 1280 s (omega arith)) ∙ (rw q at (inv .3));
+      yes = λ e. sym (take-all 1280 s (omega arith)) ∙ (rw q at (inv .read));
       no = λ e. apart (cc);
       nothing = λ e. apart (cc);
     }

@@ -4,14 +4,14 @@ use mathlib.Core.Path.{_≡_, refl, sym, _∙_, ap, ap₂, subst, fun-ext}
 use mathlib.Core.Bool.{Bool, true, false, cond}
 use mathlib.Core.List.{List, [], _∷_, _++_, append-assoc}
 use mathlib.Core.Option.{Option, none, some}
-use Prim.Native.Nat.{ℕ, suc, _+_, _*_, _^_, _≤_, _<_}
+use Prim.Native.Nat.{ℕ, suc, _+_, _*_, _≤_, _<_}
 use native.Mathlib.Nat.{zero-add}
 use native.Mathlib.Omega.{arith}
 use native.Mathlib.Decide.{decLe}
-use lib.Dec.{leb, eqb}
-use lib.ListN.{length, take, drop, getD, length-take, length-append}
-use lib.Seq.{take-all, take-at, drop-at, take-take, take-add, drop-drop, length-take-le}
-use borrow.Author.Tests.{lt-leb}
+use lib.Dec.{leb, ltb, eqb, leb·suc-suc}
+use lib.ListN.{length, take, drop, getD, length-append, List·getD-eq-default}
+use lib.Seq.{take-all, take-at, drop-at, take-add, drop-drop, length-take-le}
+use borrow.Author.Tests.{le-ltb, eq-eqb}
 use mir.Syntax.{w8}
 use mir.Val as val
 use Rattle.octets.specs.Octets.{bigEndian, bytesOf}
@@ -21,14 +21,15 @@ use Rattle.channels.specs.declared.HandlesRead.{HandlesRead}
 use Rattle.layout.specs.declared.May.{May}
 use Rattle.channels.specs.declared.Free.{Free}
 use Rattle.channels.specs.declared.ChannelsRead.{ChannelsRead}
-use Rattle.channels.specs.Channels.{handlesSay, agreedSays, handOutSays, takenSays, Decides}
+use Rattle.channels.specs.Channels.{handlesSay, agreedSays, handOutSays, takenSays}
 use Rattle.layout.specs.Layout.{filled, may, Fits, held}
 use Rattle.layout.specs.Answers.{ReadsMay}
 use Rattle.layout.proofs.Laws.{bytes-number, length-may, mark-may, same-may, held-fits}
-use Rattle.channels.specs.Bytes.{numbers, handlesBytes, channelsBytes, ReadsHandles, listBytes, freeOf, ReadsFree, Rebuilds, UnreadChannels, ReadsChannels}
+use Rattle.channels.specs.Bytes.{numbers, handlesBytes, channelsBytes, ReadsHandles, listBytes, freeOf, MarksFree, ReadsFree, allNumbers, CountsAll, AreShared, Rebuilds, UnreadChannels, ReadsChannels}
 use Rattle.channels.proofs.Numbers.{one-small}
 use Rattle.channels.proofs.Counting.{free-and-taken}
-use Rattle.channels.proofs.Steps.{apart, got-past, chain-none, chain-length, table}
+use Rattle.channels.proofs.Steps.{apart, got-past, chain-none, chain-pop, chain-length, table}
+use Rattle.channels.proofs.Marking.{marked-if-held}
 use Rattle.channels.proofs.Parts.{length-handles}
 use Rattle.channels.proofs.Reading.{same-marked, place-at}
 use Rattle.channels.proofs.Lists.{length-list, same-list}
@@ -39,76 +40,72 @@ not-taken : (o : Option ℕ) → isTaken o ≡ 0 → o ≡ none
 not-taken none e = refl
 not-taken (some h) e = apart (sym e)
 
--- before the peer's Open no number is free
-abbrev Empty : Bool → ℕ → Type 0
-Empty opened left = opened ≡ false → left ≤ 0
+-- the numbers that a map has taken are those that have a handle
+abbrev SameTaken : Map → Handles → Type 0
+SameTaken f sessions = (k : ℕ) → k < 256 → isTaken (f k) ≡ isTaken (handlesSay sessions k)
 
-pub empty-opened : (opened : Bool) (left : ℕ) → opened ≡ true → Empty opened left
-empty-opened opened left e q = apart (cc)
+module _ (opened : Bool) (highest : ℕ) (free : Free) (sessions : Handles) (is : MarksFree free) (n : ℕ) (all : CountsAll opened highest n) where
+  -- what is free and what is taken, where the marks keep the rule
+  module _ (low : highest < 256) (free-long : length (free .marked) ≡ 256) (held-long : length (sessions .held) ≡ 256) (shared : AreShared 256 (free .marked) (sessions .held) n) where
+    each : (k : ℕ) → count k (freeOf free) + isTaken (handlesSay sessions k) ≡ one (ltb k n)
+    each k = elim (decLe k 255) [
+      | yes h ↦ omega (arith, is .marks k, marked-if-held sessions k, shared k (omega arith))
+      | no h ↦
+          let m : one (getD (free .marked) k false) ≡ 0 = ap one (List·getD-eq-default (free .marked) false {n = k} (omega arith)) in
+          let t : isTaken (handlesSay sessions k) ≡ 0 = sym (ap isTaken (got-past sessions k held-long (omega arith))) in
+          omega (arith, is .marks k, ap one (le-ltb k n (omega (arith, all .few))))
+    ]
 
-module _ (opened : Bool) (highest : ℕ) (free : Free) (sessions : Handles) where
-  numbers-are : (b : Bool) → Empty b (free .left) → numbers (cond b (some (freeOf free)) none) ≡ freeOf free
-  numbers-are true h = refl
-  numbers-are false h = sym (chain-none (free .links) (free .head) (free .left) (omega (arith, h refl)))
+    none-free : n ≡ 0 → free .left ≤ 0
+    none-free z = elim (decLe (free .left) 0) [
+      | yes h ↦ h
+      | no h ↦
+          let p = ap (count (free .head)) (chain-pop (free .links) (free .head) (free .left) (λ q. omega arith)) in
+          let a : one (eqb (free .head) (free .head)) ≡ 1 = ap one (eq-eqb (free .head) (free .head) refl) in
+          absurd (omega (arith, p, each (free .head), ap one (le-ltb (free .head) n (omega arith))))
+    ]
 
-  pub rebuilt-fine :
-      Empty opened (free .left) → (b : Bool) → Decides (table sessions (free .links) (free .head) (free .left) highest opened) b → b ≡ true
-      → Rebuilds opened highest free sessions (record { fine = true; channels = table sessions (free .links) (free .head) (free .left) highest opened })
-  unfolding agreedSays handOutSays takenSays
-  rebuilt-fine empty b d e = record {
-    agreed = λ q. refl;
-    hand-out = λ q. numbers-are opened empty;
-    taken = λ q. refl;
-    shared = λ q. d .yes e;
-    no = λ q. apart (cc);
-    new = λ q. apart (cc);
-  }
+    numbers-are : (b : Bool) → n ≡ allNumbers b highest → numbers (cond b (some (freeOf free)) none) ≡ freeOf free
+    numbers-are true e = refl
+    numbers-are false e = sym (chain-none (free .links) (free .head) (free .left) (omega (arith, none-free e)))
 
-  module _ (r : ChannelsRead) (u : UnreadChannels r) where
-    not-rebuilt :
-        ((l : Option (List ℕ)) (f : Map) → numbers l ≡ freeOf free → ((k : ℕ) → k < 256 → isTaken (f k) ≡ isTaken (handlesSay sessions k)) → Shared (held opened highest) l f → ⊥)
-        → Rebuilds opened highest free sessions r
-    not-rebuilt h =
-        let b = u .bad in
-        record {
-          agreed = λ q. apart (cc);
-          hand-out = λ q. apart (cc);
-          taken = λ q. apart (cc);
-          shared = λ q. apart (cc);
-          no = λ q. h;
-          new = λ q. u .new;
-        }
+    shared-parts : (b : Bool) → n ≡ allNumbers b highest → Shared (held b highest) (cond b (some (freeOf free)) none) (handlesSay sessions)
+    shared-parts true e = λ k. each k ∙ ap one (ap (ltb k) e ∙ leb·suc-suc k highest)
+    shared-parts false e = fun-ext (λ k. not-taken (handlesSay sessions k) (omega (arith, each k, ap one (le-ltb k n (omega arith)))))
 
-    pub rebuilt-closed : opened ≡ false → 0 < free .left → Rebuilds opened highest free sessions r
-    rebuilt-closed e h = not-rebuilt (λ l f q same s. by l f q (subst (λ b. Shared (held b highest) l f) e s))
-      where
-        by : (l : Option (List ℕ)) (f : Map) → numbers l ≡ freeOf free → Shared none l f → ⊥
-        by none f q s = omega (arith, ap length q, chain-length (free .links) (free .head) (free .left))
-        by (some l) f q s = s
+    pub rebuilt-fine : Rebuilds opened highest free sessions (record { fine = true; channels = table sessions (free .links) (free .head) (free .left) highest opened })
+    unfolding agreedSays handOutSays takenSays
+    rebuilt-fine = record {
+      agreed = λ q. refl;
+      hand-out = λ q. numbers-are opened (all .count);
+      taken = λ q. refl;
+      shared = λ q. shared-parts opened (all .count);
+      no = λ q. apart (cc);
+      new = λ q. apart (cc);
+    }
 
-    module _ (low : highest < 256) (long : length (sessions .held) ≡ 256) where
-      past : (k : ℕ) → (k ≤ 255 → ⊥) → handlesSay sessions k ≡ none
-      past k h = sym (got-past sessions k long (omega arith))
+  -- the marks of numbers that keep the rule
+  shared-marks :
+      (b : Bool) → n ≡ allNumbers b highest → (l : Option (List ℕ)) (f : Map) → numbers l ≡ freeOf free → SameTaken f sessions → Shared (held b highest) l f
+      → AreShared 256 (free .marked) (sessions .held) n
+  shared-marks true e none f q same s k h = absurd s
+  shared-marks true e (some l) f q same s k h =
+      omega (arith, s k, ap (count k) q, same k h, is .marks k, marked-if-held sessions k, ap one (ap (ltb k) e ∙ leb·suc-suc k highest))
+  shared-marks false e none f q same s k h =
+      omega (arith, ap (count k) q, ap (λ g. isTaken (g k)) s, same k h, is .marks k, marked-if-held sessions k, ap one (le-ltb k n (omega arith)))
+  shared-marks false e (some l) f q same s k h = absurd s
 
-      shared-same :
-          (b : Bool) (l : Option (List ℕ)) (f : Map) → numbers l ≡ freeOf free → ((k : ℕ) → k < 256 → isTaken (f k) ≡ isTaken (handlesSay sessions k)) → Shared (held b highest) l f
-          → Shared (held b highest) (cond b (some (freeOf free)) none) (handlesSay sessions)
-      shared-same true none f q same s = absurd s
-      shared-same true (some l) f q same s = λ k. elim (decLe k 255) [
-        | yes h ↦ omega (arith, s k, ap (count k) q, same k (omega arith))
-        | no h ↦
-            let z : one (leb k highest) ≡ 0 = ap one (lt-leb k highest (omega arith)) in
-            omega (arith, s k, ap (count k) q, ap isTaken (past k h))
-      ]
-      shared-same false none f q same s = fun-ext (λ k. elim (decLe k 255) [
-        | yes h ↦ not-taken (handlesSay sessions k) (sym (same k (omega arith)) ∙ ap (λ g. isTaken (g k)) s)
-        | no h ↦ past k h
-      ])
-      shared-same false (some l) f q same s = absurd s
-
-      pub rebuilt-unshared : (b : Bool) → Decides (table sessions (free .links) (free .head) (free .left) highest opened) b → b ≡ false → Rebuilds opened highest free sessions r
-      unfolding agreedSays handOutSays takenSays
-      rebuilt-unshared b d e = not-rebuilt (λ l f q same s. d .no e (shared-same opened l f q same s))
+  pub rebuilt-unshared : (r : ChannelsRead) → UnreadChannels r → (AreShared 256 (free .marked) (sessions .held) n → ⊥) → Rebuilds opened highest free sessions r
+  rebuilt-unshared r u not =
+      let b = u .bad in
+      record {
+        agreed = λ q. apart (cc);
+        hand-out = λ q. apart (cc);
+        taken = λ q. apart (cc);
+        shared = λ q. apart (cc);
+        no = λ q l f i same s. not (shared-marks opened (all .count) l f i same s);
+        new = λ q. u .new;
+      }
 
 -- ---- the parts of a table's bytes
 

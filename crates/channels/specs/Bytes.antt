@@ -10,12 +10,12 @@ use mathlib.Core.Path.{_≡_}
 use mathlib.Core.Bool.{Bool, true, false, cond}
 use mathlib.Core.List.{List, [], _∷_, _++_}
 use mathlib.Core.Option.{Option, none, some}
-use Prim.Native.Nat.{ℕ, zero, suc, _≤_, _<_}
-use lib.Dec.{leb}
-use lib.ListN.{length}
+use Prim.Native.Nat.{ℕ, zero, suc, _+_, _≤_, _<_}
+use lib.Dec.{leb, ltb}
+use lib.ListN.{length, getD}
 use Rattle.octets.specs.Octets.{bytesOf, put}
 use Rattle.layout.specs.Layout.{filled, may, Fits, held}
-use Rattle.channels.specs.Numbers.{Map, nowhere, isTaken, count, Shared}
+use Rattle.channels.specs.Numbers.{Map, nowhere, one, isTaken, count, Shared}
 use Rattle.channels.specs.declared.Handles.{Handles}
 use Rattle.channels.specs.declared.HandlesRead.{HandlesRead}
 use Rattle.channels.specs.declared.Linked.{Linked}
@@ -76,9 +76,10 @@ pub record WritesChannels (self : OutgoingChannels) (at : ℕ) (before after : L
   pub table : after ≡ put before at (tableBytes self)
   pub shared : SharedBy self → after ≡ put before at (channelsBytes (agreedSays self) (handOutSays self) (takenSays self))
 
--- links that lead along a list, or that it has a number twice
+-- links that lead along a list and marks of its numbers, or that it has a number twice
 pub record Links (s : List ℕ) (r : Linked) : Type 0 where
   pub yes : r .fine ≡ true → chain (r .links) (r .head) (length s) ≡ s
+  pub marks : r .fine ≡ true → (k : ℕ) → count k s ≡ one (getD (r .marked) k false)
   pub no : r .fine ≡ false → ((k : ℕ) → count k s ≤ 1) → ⊥
 
 -- the bytes of a list of free numbers: how many there are, and which
@@ -89,10 +90,31 @@ listBytes l = bytesOf 2 (length l) ++ filled 256 l
 abbrev pub freeOf : Free → List ℕ
 freeOf r = chain (r .links) (r .head) (r .left)
 
+-- the numbers that are free are marked, and none is free twice
+pub record MarksFree (r : Free) : Type 0 where
+  pub marks : (k : ℕ) → count k (freeOf r) ≡ one (getD (r .marked) k false)
+
 pub record ReadsFree (s : List ℕ) (r : Free) : Type 0 where
   pub yes : r .fine ≡ true → s ≡ listBytes (freeOf r)
+  pub marks : r .fine ≡ true → MarksFree r
   pub few : r .left ≤ 256
   pub no : r .fine ≡ false → (l : List ℕ) → length l ≤ 256 → ((k : ℕ) → count k l ≤ 1) → s ≡ listBytes l → ⊥
+
+-- how many numbers there are from 0 to the agreed channel-max, and none before the peer's Open
+abbrev pub allNumbers : Bool → ℕ → ℕ
+allNumbers opened highest = cond opened (suc highest) 0
+
+pub record CountsAll (opened : Bool) (highest r : ℕ) : Type 0 where
+  pub count : r ≡ allNumbers opened highest
+  pub few : r ≤ 256
+
+-- of the numbers below m, those below n are free or taken, and not both, and no other is either
+abbrev pub AreShared : ℕ → List Bool → List Bool → ℕ → Type 0
+AreShared m free taken n = (k : ℕ) → k < m → one (getD free k false) + one (getD taken k false) ≡ one (ltb k n)
+
+pub record TellsShared (free taken : List Bool) (n : ℕ) (r : Bool) : Type 0 where
+  pub yes : r ≡ true → AreShared 256 free taken n
+  pub no : r ≡ false → AreShared 256 free taken n → ⊥
 
 -- a table of these parts, or that no table with the same numbers taken keeps the rule
 pub record Rebuilds (opened : Bool) (highest : ℕ) (free : Free) (sessions : Handles) (r : ChannelsRead) : Type 0 where

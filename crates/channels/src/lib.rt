@@ -2,7 +2,7 @@
 ghost use mathlib.Core.Path.{_≡_};
 ghost use mathlib.Core.Bool.{false};
 ghost use mathlib.Core.Option.{none, some};
-ghost use Prim.Native.Nat.{_<_};
+ghost use Prim.Native.Nat.{_≤_, _<_};
 ghost use Rattle.channels.specs.Numbers.{nowhere, with};
 ghost use Rattle.channels.specs.Channels.{handlesSay, heldSays, takenSays, agreedSays, agreedMaxSays, Ascends, Fresh, Opens, Allocates, Frees, Counts};
 ghost use Rattle.channels.specs.Channels.{TellsFirst, Marked, Decides};
@@ -10,7 +10,7 @@ ghost use Rattle.octets.specs.Octets.{put};
 ghost use Rattle.layout.specs.Layout.{filled};
 ghost use Rattle.channels.specs.Bytes.{handlesBytes, freeNumbers};
 ghost use Rattle.channels.specs.Bytes.{ReadsHandles, TellsBelow, Unread, CountsFree, WritesChannels};
-ghost use Rattle.channels.specs.Bytes.{Links, ReadsFree, Rebuilds, UnreadChannels, ReadsChannels};
+ghost use Rattle.channels.specs.Bytes.{Links, MarksFree, ReadsFree, CountsAll, TellsShared, Rebuilds, UnreadChannels, ReadsChannels};
 use layout::are_zero;
 use layout::put_may;
 use layout::read_may;
@@ -132,8 +132,10 @@ impl Handles {
             if !place.fine {
                 return unread();
             }
-            held[k] = place.there;
-            handles[k] = place.number as u32;
+            if place.there {
+                held[k] = true;
+                handles[k] = place.number as u32;
+            }
             k += 1;
         }
         HandlesRead {
@@ -208,17 +210,19 @@ pub struct ChannelsRead {
     pub channels: OutgoingChannels,
 }
 
-// Links along a list from its first number on. Where `fine` is false, the list has a number twice.
+// Links along a list from its first number on, and marks for its numbers. Where `fine` is false, the list has a number twice.
 struct Linked {
     fine: bool,
     links: [u8; 256],
+    marked: [bool; 256],
     head: u8,
 }
 
-// Free numbers that were read from bytes: `left` of them from `head` on, by the links. Where `fine` is false, the bytes are not those of such a list.
+// Free numbers that were read from bytes: `left` of them from `head` on, by the links, and each marked. Where `fine` is false, the bytes are not those of such a list.
 struct Free {
     fine: bool,
     links: [u8; 256],
+    marked: [bool; 256],
     head: u8,
     left: u16,
 }
@@ -258,6 +262,7 @@ fn link(s: &[u8]) -> Linked
             return Linked {
                 fine: false,
                 links,
+                marked: seen,
                 head,
             };
         }
@@ -269,6 +274,7 @@ fn link(s: &[u8]) -> Linked
     Linked {
         fine: true,
         links,
+        marked: seen,
         head,
     }
 }
@@ -278,9 +284,11 @@ fn no_list() -> Free
     ensures { λ r. ⌜ (r .fine ≡ false) × (r .left ≡ 0) ⌝ }
 {
     let links = [0u8; 256];
+    let marked = [false; 256];
     Free {
         fine: false,
         links,
+        marked,
         head: 0,
         left: 0,
     }
@@ -303,9 +311,11 @@ fn read_free(s: &[u8]) -> Free
     }
     let linked = link(&s[2..end]);
     let links = linked.links;
+    let marked = linked.marked;
     Free {
         fine: linked.fine,
         links,
+        marked,
         head: linked.head,
         left: n as u16,
     }
@@ -322,32 +332,66 @@ fn unread_channels() -> ChannelsRead
     }
 }
 
+// How many channel numbers there are: none before the peer's Open.
+fn all_numbers(opened: bool, highest: u8) -> usize
+    ensures { λ r. ⌜ CountsAll opened highest r ⌝ }
+{
+    if opened {
+        return (highest as usize) + 1;
+    }
+    0
+}
+
+// Whether the numbers below n are free or taken, and not both, and no other number is either.
+// There is no early exit, so that the compiler can take many numbers at a time.
+fn are_shared(free: &[bool; 256], taken: &[bool; 256], n: usize) -> bool
+    requires { ⌜ n ≤ 256 ⌝ }
+    ensures { λ r. ⌜ TellsShared (now (free .entry)) (now (taken .entry)) n r ⌝ }
+{
+    let mut fine = true;
+    let mut k: usize = 0;
+    while k < n {
+        if free[k] == taken[k] {
+            fine = false;
+        }
+        k += 1;
+    }
+    while k < 256 {
+        if free[k] {
+            fine = false;
+        }
+        if taken[k] {
+            fine = false;
+        }
+        k += 1;
+    }
+    fine
+}
+
 // The table of parts that were read, if it keeps the rule.
 fn rebuilt(opened: bool, highest: u8, free: Free, sessions: Handles) -> ChannelsRead
+    requires { ⌜ MarksFree free ⌝ }
     ensures { λ r. ⌜ Rebuilds opened highest free sessions r ⌝ }
 {
-    let left = free.left;
-    if !opened {
-        if 0 < left {
-            return unread_channels();
-        }
+    let marked = free.marked;
+    let held = sessions.held;
+    let n = all_numbers(opened, highest);
+    if !are_shared(&marked, &held, n) {
+        return unread_channels();
     }
     let links = free.links;
     let channels = OutgoingChannels {
         sessions,
         links,
         head: free.head,
-        left,
+        left: free.left,
         highest,
         opened,
     };
-    if channels.is_shared() {
-        return ChannelsRead {
-            fine: true,
-            channels,
-        };
+    ChannelsRead {
+        fine: true,
+        channels,
     }
-    unread_channels()
 }
 
 // Whether the numbers below n are marked, and no others.

@@ -1,7 +1,7 @@
 -- Laws of the parts of a layout, and what each step of the functions shows, with the facts as they come.
 -- Assumes nothing.
 use mathlib.Core.Path.{_≡_, refl, sym, _∙_, ap, ap₂}
-use mathlib.Core.Bool.{Bool, true, false, cond}
+use mathlib.Core.Bool.{Bool, true, false, cond, _&&_}
 use mathlib.Core.List.{List, [], _∷_, _++_}
 use mathlib.Core.Option.{Option, none, some}
 use Prim.Native.Nat.{ℕ, zero, suc, _+_, _*_, _-_, _/_, _%_, _^_, _≤_, _<_}
@@ -14,8 +14,10 @@ use lib.Pow.{pow-mono, pow-pos}
 use Rattle.octets.specs.Octets.{bigEndianFrom, bigEndian, bytesOf, put}
 use Rattle.octets.proofs.Laws.{length-bytesOf, put-over, put-more}
 use Rattle.layout.specs.declared.May.{May}
-use Rattle.layout.specs.Layout.{zeros, filled, may, held, Fits}
-use Rattle.layout.specs.Answers.{ReadsMay, TellsZeros}
+use borrow.Author.Count.{below-more}
+use borrow.Author.Tests.{le-leb, lt-leb, eq-eqb, ne-eqb, eqb-true}
+use Rattle.layout.specs.Layout.{zeros, filled, may, held, Fits, mayIn}
+use Rattle.layout.specs.Answers.{mayAnswer, ReadsMay, TellsZeros}
 
 apart : {A : Type 0} → _≡_ {A = ℕ} 0 1 → A
 apart z = absurd (omega arith)
@@ -123,16 +125,32 @@ octets-rest : (s : List ℕ) → Octets s → Octets (drop 1 s)
 octets-rest [] h i = h i
 octets-rest (b ∷ s) h i = h (suc i)
 
+-- the rule, by the mark and the number that are read
+may-rule : (s : List ℕ) (x : ℕ) → 0 < length s → length s ≤ 9 → x ≡ bigEndian (take 8 (take (length s - 1) (drop 1 s)))
+    → mayIn s ≡ cond (eqb (getD s 0 0) 1) (some (some x)) (cond (eqb (getD s 0 0) 0 && eqb x 0) (some none) none)
+unfolding mayIn
+may-rule [] x some′ few e = absurd (omega arith)
+may-rule (b ∷ s) x some′ few e =
+    let q : bigEndian s ≡ x = sym (e ∙ ap bigEndian (rest-is (b ∷ s) (length s) (omega arith) refl)) in
+    rw (le-leb (length s) 8 (omega arith), q)
+
 abbrev pub badMay : May
 badMay = record { fine = false; there = false; number = 0 }
 
-bad-may : (s : List ℕ) → ((w : ℕ) → w ≤ 8 → (o : Option ℕ) → s ≡ may w o → ⊥) → ReadsMay s badMay
-bad-may s h = record { yes = λ w few l q. apart (cc); low = λ w l. pow-pos (8 * w); no = λ w few q. h w few }
+bad-may : (s : List ℕ) → mayIn s ≡ none → ((w : ℕ) → w ≤ 8 → (o : Option ℕ) → s ≡ may w o → ⊥) → ReadsMay s badMay
+bad-may s e h = record { is = sym (ap mayAnswer e); yes = λ w few l q. apart (cc); low = λ w l. pow-pos (8 * w); no = λ w few q. h w few }
 
 pub may-empty : (s : List ℕ) → length s ≡ 0 → ReadsMay s badMay
-may-empty s e = bad-may s (λ w few o q. omega (arith, ap length q, length-may w o))
+unfolding mayIn
+may-empty [] e = bad-may [] refl (λ w few o q. omega (arith, ap length q, length-may w o))
+may-empty (b ∷ s) e = absurd (omega arith)
 
-module _ (s : List ℕ) (octets : Octets s) (x : ℕ) (e : x ≡ bigEndian (take 8 (take (length s - 1) (drop 1 s)))) where
+pub may-long : (s : List ℕ) → 9 < length s → ReadsMay s badMay
+unfolding mayIn
+may-long [] h = absurd (omega arith)
+may-long (b ∷ s) h = bad-may (b ∷ s) (rw (lt-leb (length s) 8 (omega arith))) (λ w few o q. omega (arith, ap length q, length-may w o))
+
+module _ (s : List ℕ) (there : 0 < length s) (short : length s ≤ 9) (octets : Octets s) (x : ℕ) (e : x ≡ bigEndian (take 8 (take (length s - 1) (drop 1 s)))) where
   may-is : (w : ℕ) → w ≤ 8 → length s ≡ suc w → s ≡ getD s 0 0 ∷ bytesOf w x
   may-is w few l =
       let q : bigEndian (drop 1 s) ≡ x = sym (e ∙ ap bigEndian (rest-is s w few l)) in
@@ -141,6 +159,7 @@ module _ (s : List ℕ) (octets : Octets s) (x : ℕ) (e : x ≡ bigEndian (take
 
   pub may-read : x < 2 ^ (8 * length (take 8 (take (length s - 1) (drop 1 s)))) → getD s 0 0 ≡ 1 → ReadsMay s (record { fine = true; there = true; number = x })
   may-read small m = record {
+    is = let q : mayIn s ≡ some (some x) = may-rule s x there short e ∙ rw (eq-eqb (getD s 0 0) 1 m) in sym (ap mayAnswer q);
     yes = λ w few l q. may-is w few l ∙ ap (λ b. b ∷ bytesOf w x) m;
     low = λ w l.
         let n : length (take 8 (take (length s - 1) (drop 1 s))) ≤ w = omega (arith, length-take 8 (take (length s - 1) (drop 1 s)), length-take (length s - 1) (drop 1 s)) in
@@ -150,10 +169,12 @@ module _ (s : List ℕ) (octets : Octets s) (x : ℕ) (e : x ≡ bigEndian (take
   }
 
   pub may-neither : (getD s 0 0 ≡ 1 → ⊥) → 0 < getD s 0 0 → ReadsMay s badMay
-  may-neither n h = bad-may s (λ w few o q. let m : getD s 0 0 ≡ marked o = ap (λ l. getD l 0 0) q ∙ mark-may w o in n (omega (arith, marked-low o)))
+  may-neither n h =
+      bad-may s (may-rule s x there short e ∙ rw (ne-eqb (getD s 0 0) 1 n, ne-eqb (getD s 0 0) 0 (λ z. omega arith)))
+      (λ w few o q. let m : getD s 0 0 ≡ marked o = ap (λ l. getD l 0 0) q ∙ mark-may w o in n (omega (arith, marked-low o)))
 
   pub may-over-none : getD s 0 0 ≤ 0 → 0 < x → ReadsMay s badMay
-  may-over-none m h = bad-may s by
+  may-over-none m h = bad-may s (may-rule s x there short e ∙ rw (eq-eqb (getD s 0 0) 0 (omega arith), ne-eqb (getD s 0 0) 1 (λ z. omega arith), ne-eqb x 0 (λ z. omega arith))) by
     where
       by : (w : ℕ) → w ≤ 8 → (o : Option ℕ) → s ≡ may w o → ⊥
       by w few (some n) q = let f : getD s 0 0 ≡ 1 = ap (λ l. getD l 0 0) q in omega arith
@@ -164,6 +185,9 @@ module _ (s : List ℕ) (octets : Octets s) (x : ℕ) (e : x ≡ bigEndian (take
 
   pub may-none : getD s 0 0 ≤ 0 → x ≤ 0 → ReadsMay s (record { fine = true; there = false; number = 0 })
   may-none m h = record {
+    is =
+        let q : mayIn s ≡ some none = may-rule s x there short e ∙ rw (ne-eqb (getD s 0 0) 1 (λ z. omega arith), eq-eqb (getD s 0 0) 0 (omega arith), eq-eqb x 0 (omega arith)) in
+        sym (ap mayAnswer q);
     yes = λ w few l q. let z : x ≡ 0 = omega arith in let b : getD s 0 0 ≡ 0 = omega arith in may-is w few l ∙ ap₂ (λ b n. b ∷ bytesOf w n) b z;
     low = λ w l. pow-pos (8 * w);
     no = λ w few q. apart (cc);
@@ -176,28 +200,53 @@ zero-at zero i = refl
 zero-at (suc n) zero = refl
 zero-at (suc n) (suc i) = zero-at n i
 
-pub zeros-not : (s : List ℕ) (i : ℕ) → 0 < getD s i 0 → TellsZeros s false
-zeros-not s i h = record { yes = λ e. apart (cc); no = λ e q. omega (arith, ap (λ l. getD l i 0) q, zero-at (length s) i) }
+zeros-at : (s : List ℕ) (i : ℕ) → s ≡ zeros (length s) → getD s i 0 ≡ 0
+zeros-at s i e = ap (λ l. getD l i 0) e ∙ zero-at (length s) i
 
-pub zeros-are : (s : List ℕ) (i : ℕ) → length s ≤ i → ((j : ℕ) → j < i → getD s j 0 ≡ 0) → TellsZeros s true
-zeros-are s i h f = record {
-  yes = λ e. ext-getD 0 s (zeros (length s)) (sym (length-zeros (length s))) (λ j l. f j (omega arith) ∙ sym (zero-at (length s) j));
-  no = λ e. apart (cc);
-}
+-- of the first i bytes none is greater than `greatest`, which is zero where they all are
+abbrev pub Greatest : List ℕ → ℕ → ℕ → Type 0
+Greatest s greatest i = (i ≤ length s) × ((j : ℕ) → j < i → getD s j 0 ≤ greatest) × (s ≡ zeros (length s) → greatest ≡ 0)
+
+module _ (s : List ℕ) where
+  pub greatest-none : Greatest s 0 0
+  greatest-none = (omega arith, λ j l. absurd (omega arith), λ e. refl)
+
+  module _ (greatest i : ℕ) where
+    module _ (g : ℕ) (less : i < length s) (inv : Greatest s greatest i) where
+      greatest-more : greatest ≤ g → getD s i 0 ≤ g → (s ≡ zeros (length s) → g ≡ 0) → Greatest s g (i + 1)
+      greatest-more m n z = (omega arith, below-more _ i (λ j h. omega (arith, inv .1 j h)) n, z)
+
+      pub greatest-next : g ≡ getD s i 0 → greatest < getD s i 0 → Greatest s g (i + 1)
+      greatest-next e h = greatest-more (omega arith) (omega arith) (λ z. e ∙ zeros-at s i z)
+
+      pub greatest-stays : g ≡ greatest → getD s i 0 ≤ greatest → Greatest s g (i + 1)
+      greatest-stays e h = greatest-more (omega arith) (omega arith) (λ z. e ∙ inv .2 z)
+
+    pub greatest-all : length s ≤ i → Greatest s greatest i → TellsZeros s (eqb greatest 0)
+    greatest-all h inv = at (eqb greatest 0) refl
+      where
+        at : (b : Bool) → eqb greatest 0 ≡ b → TellsZeros s b
+        at true e =
+            let z : greatest ≡ 0 = eqb-true greatest 0 e in
+            record {
+              yes = λ q. ext-getD 0 s (zeros (length s)) (sym (length-zeros (length s))) (λ j l. omega (arith, inv .1 j (omega arith), zero-at (length s) j));
+              no = λ q. apart (cc);
+            }
+        at false e = record { yes = λ q. apart (cc); no = λ q a. let z = eq-eqb greatest 0 (inv .2 a) in apart (cc) }
 
 -- ---- what stands in bytes is one
 
--- from bytes to a number that may be absent
-abbrev pub mayIn : List ℕ → Option ℕ
-mayIn [] = none
-mayIn (b ∷ s) = cond (eqb b 0) none (some (bigEndian s))
+-- from bytes of any length to a number that may be absent
+abbrev unmarked : List ℕ → Option ℕ
+unmarked [] = none
+unmarked (b ∷ s) = cond (eqb b 0) none (some (bigEndian s))
 
-pub may-back : (w : ℕ) (o : Option ℕ) → Fits w o → mayIn (may w o) ≡ o
+pub may-back : (w : ℕ) (o : Option ℕ) → Fits w o → unmarked (may w o) ≡ o
 may-back w none h = refl
 may-back w (some n) h = ap some (bytes-number w n h)
 
 pub same-may : (w : ℕ) (o p : Option ℕ) → Fits w o → Fits w p → may w o ≡ may w p → o ≡ p
-same-may w o p h k e = sym (may-back w o h) ∙ ap mayIn e ∙ may-back w p k
+same-may w o p h k e = sym (may-back w o h) ∙ ap unmarked e ∙ may-back w p k
 
 pub held-fits : (w : ℕ) (b : Bool) (n : ℕ) → n < 256 ^ w → Fits w (held b n)
 held-fits w true n h = h

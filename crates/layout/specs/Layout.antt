@@ -1,11 +1,12 @@
 -- Numbers that may be absent, and lists in a fixed room, as bytes: what is absent is zero, and so is what comes after a list.
 -- Assumes nothing: these are definitions.
-use mathlib.Core.Bool.{Bool, cond}
+use mathlib.Core.Bool.{Bool, cond, _&&_}
 use mathlib.Core.List.{List, [], _∷_, _++_}
 use mathlib.Core.Option.{Option, none, some}
 use Prim.Native.Nat.{ℕ, zero, suc, _-_, _^_, _<_}
 use lib.ListN.{length}
-use Rattle.octets.specs.Octets.{bytesOf}
+use lib.Dec.{leb, eqb}
+use Rattle.octets.specs.Octets.{bigEndian, bytesOf}
 
 abbrev pub zeros : ℕ → List ℕ
 zeros zero = []
@@ -28,3 +29,8 @@ Fits w (some n) = n < 256 ^ w
 -- a number that is there or not
 abbrev pub held : Bool → ℕ → Option ℕ
 held b n = cond b (some n) none
+
+-- the number that may be absent which bytes stand for, a mark and then at most eight bytes; none where they stand for no such number
+unfoldable pub mayIn : List ℕ → Option (Option ℕ)
+mayIn [] = none
+mayIn (b ∷ s) = cond (leb (length s) 8) (cond (eqb b 1) (some (some (bigEndian s))) (cond (eqb b 0 && eqb (bigEndian s) 0) (some none) none)) none

@@ -13,7 +13,7 @@ pub struct May {
     pub number: u64,
 }
 
-// Reads a number that may be absent: the first byte says whether it is there, and the others are its bytes.
+// Reads a number that may be absent: the first byte says whether it is there, and the others, at most eight, are its bytes.
 pub fn read_may(s: &[u8]) -> May
     ensures { λ r. ⌜ ReadsMay (now (s .entry)) r ⌝ }
 {
@@ -23,6 +23,9 @@ pub fn read_may(s: &[u8]) -> May
         number: 0,
     };
     if s.len() == 0 {
+        return bad;
+    }
+    if 9 < s.len() {
         return bad;
     }
     let mark = s[0];
@@ -66,16 +69,18 @@ pub fn put_may(out: &mut [u8], at: usize, w: usize, there: bool, x: u64)
     put_number(out, at + 1, w, 0);
 }
 
-// Whether all the bytes are zero.
+// Whether all the bytes are zero: whether the greatest is. There is no early exit, so that the compiler can take many bytes at a time.
 pub fn are_zero(s: &[u8]) -> bool
     ensures { λ r. ⌜ TellsZeros (now (s .entry)) r ⌝ }
 {
+    let mut greatest: u8 = 0;
     let mut i: usize = 0;
     while i < s.len() {
-        if 0 < s[i] {
-            return false;
+        let b = s[i];
+        if greatest < b {
+            greatest = b;
         }
         i += 1;
     }
-    true
+    greatest == 0
 }

@@ -60,15 +60,15 @@ part-link-end c = search steps
 link-requires : tie.Need-link-requires
 link-requires c κs = search steps
 
-cast-t17 : tie.Need-cast-t17
-cast-t17 c = search steps
+cast-t18 : tie.Need-cast-t18
+cast-t18 c = search steps
 
 returns-4 : tie.Need-returns-4
 returns-4 c =
-    let z = c .before .before .before .before in
+    let z = c .before .before .before .before .before in
     let n = z .before .before .before in
     free-read (n .before .before .before .before .args .s .now) (omega arith) (λ i. omega (arith, n .before .before .before .shared-slice-known .given i)) (n .number .result) (n .number .ensures .0) (omega arith) _ (z .are-zero .ensures)
-    (not-false _ (c .before .before .before .if3 .left)) _ (c .before .link .ensures)
+    (not-false _ (c .before .before .before .before .if3 .left)) _ (c .before .before .link .ensures)
 
 pub read-free-spec : {M : Type 1} → statement M
 read-free-spec =
@@ -91,5 +91,5 @@ read-free-spec =
     part-link-start
     part-link-end
     link-requires
-    cast-t17
+    cast-t18
     returns-4)

@@ -1,14 +1,15 @@
 -- `channels::Handles::from_bytes` meets its contract. The loop's invariant: the bytes of the places passed are those of the handles read. The measure is what is left of 256.
 -- Assumes nothing.
 use Prim.Native.Nat.{_-_}
+use mathlib.Core.Logic.{⊎-elim}
 use native.Mathlib.Omega.{arith}
 use borrow.Author.Needs.{needs}
 use borrow.Author.Tests.{not-true, not-false}
-use Rattle.channels.proofs.Reading.{handles-short, PlacesRead, places-unread, place-low, place-bad, place-next, places-read}
+use Rattle.channels.proofs.Reading.{handles-short, PlacesRead, places-unread, place-low, place-bad, place-put, place-passed, places-read}
 use Rattle.channels.proofs.Handles.from_bytes.Statement.{statement}
 use Rattle.channels.proofs.Handles.from_bytes.Tie as tie
 
-ruleset steps = (handles-short, places-unread, place-bad, place-next, places-read, not-true, not-false, needs)
+ruleset steps = (handles-short, places-unread, place-bad, places-read, not-true, not-false, needs)
 
 abbrev Inv-loop : tie.InvT-loop
 Inv-loop s held₀ handles₀ k₀ held handles k = PlacesRead s held handles k
@@ -53,7 +54,7 @@ array-write-held : tie.Need-array-write-held Inv-loop μ-loop
 array-write-held c = search steps
 
 cast-handles : tie.Need-cast-handles Inv-loop μ-loop
-cast-handles c = let r = c .before .before .before in place-low _ (r .before .before .before .loop .k) (omega arith) (omega arith) (r .read-may .result) (r .read-may .ensures)
+cast-handles c = let r = c .before .before .before .before in place-low _ (r .before .before .before .loop .k) (omega arith) (omega arith) (r .read-may .result) (r .read-may .ensures)
 
 mul-handles : tie.Need-mul-handles Inv-loop μ-loop
 mul-handles c = search steps
@@ -68,7 +69,12 @@ loop-less : tie.Need-loop-less Inv-loop μ-loop
 loop-less c = search steps
 
 loop-again : tie.Need-loop-again Inv-loop μ-loop
-loop-again c = search steps
+loop-again c =
+    let r = c .before .before .before in
+    let l = r .before .before .before in
+    ⊎-elim
+    (λ w. place-put _ (l .loop .k) (omega arith) (omega arith) (r .read-may .result) (r .read-may .ensures) _ _ (not-false _ (c .before .if2 .left)) (l .loop .inv) _ _ (w .0 .taken) (w .2) (w .3))
+    (λ w. place-passed _ (l .loop .k) (omega arith) (omega arith) (r .read-may .result) (r .read-may .ensures) _ _ (not-false _ (c .before .if2 .left)) (l .loop .inv) _ _ (w .0 .left) (w .1) (w .2)) (c .if3 .came)
 
 returns-3 : tie.Need-returns-3 Inv-loop μ-loop
 returns-3 c = search steps

@@ -68,7 +68,9 @@ cast-rebuilt : tie.Need-cast-rebuilt
 cast-rebuilt c = search steps
 
 rebuilt-requires : tie.Need-rebuilt-requires
-rebuilt-requires c κs = search steps
+rebuilt-requires c κs =
+    let f = c .before .before .before .before .before .before .before .before in
+    f .read-free .ensures .marks (not-false _ (c .before .before .before .before .before .before .if3 .left))
 
 returns-5 : tie.Need-returns-5
 returns-5 c =
