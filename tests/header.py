@@ -1,5 +1,5 @@
 #!/usr/bin/env python3
-"""Holds include/hisproat.h to the Rattle sources. Run in the repository's top folder.
+"""Holds the headers in include/ to the Rattle sources. Run in the repository's top folder.
 
 Sizes and limits, outcomes, states and kinds must be the same numbers under the same names, in both directions; the places in an answer must fill it; and every
 exported function must have a prototype with the same parameters, a slice being a pointer and a length. A fault is a line of its own.
@@ -9,6 +9,7 @@ import sys
 from pathlib import Path
 
 LIBRARY = "crates/hisproat/src"
+READER = "crates/frame_reader/src"
 BYTES = "crates/engine_bytes/src/lib.rt"
 STATES = "crates/connection_state/src/lib.rt"
 CONNECTION = "crates/connection/src/lib.rt"
@@ -19,6 +20,7 @@ CONSTANTS = {
     "HISPROAT_ANSWER_SIZE": (LIBRARY, "ANSWER_SIZE"),
     "HISPROAT_STATUS_SIZE": (LIBRARY, "STATUS_SIZE"),
     "HISPROAT_HANDLE_SIZE": (LIBRARY, "HANDLE_SIZE"),
+    "HISPROAT_FRAME_SIZE": (READER, "ANSWER_SIZE"),
     "HISPROAT_MIN_FRAME_SIZE": (CONNECTION, "MIN_MAX_FRAME_SIZE"),
     "HISPROAT_MAX_FRAME_SIZE": (CONNECTION, "MAX_FRAME_SIZE"),
     "HISPROAT_OUTPUT_ROOM": (CONNECTION, "MAX_FRAME_SIZE"),
@@ -29,6 +31,7 @@ ANSWERS = [
     ("HISPROAT_AT_WRITTEN", 8, "HISPROAT_ANSWER_SIZE"),
     ("HISPROAT_STATUS_AT_TAKEN", 2, "HISPROAT_STATUS_SIZE"),
     ("HISPROAT_HANDLE_AT_NUMBER", 4, "HISPROAT_HANDLE_SIZE"),
+    ("HISPROAT_FRAME_AT_CONSUMED", 8, "HISPROAT_FRAME_SIZE"),
 ]
 
 C_TYPES = {
@@ -63,10 +66,10 @@ def arms(path, function, enum):
     return {shouted(name): int(n) for name, n in re.findall(rf"{enum}::(\w+) => (\d+)", body[0] if body else "")}
 
 
-def exported():
+def exported(path):
     """Each exported function's parameters, as C has them."""
     found = {}
-    for name, inside in re.findall(r'pub extern "C" fn (\w+)\s*\((.*?)\)\s*->\s*u8\b', source(LIBRARY), re.S):
+    for name, inside in re.findall(r'pub extern "C" fn (\w+)\s*\((.*?)\)\s*->\s*u8\b', source(path), re.S):
         types = [p.split(":", 1)[1] for p in inside.split(",") if ":" in p]
         found[name] = [c for t in types for c in C_TYPES.get(re.sub(r"\s+", "", t), [f"{t.strip()}, which C does not have"])]
     return found
@@ -94,8 +97,8 @@ def compared(what, ours, theirs):
 
 
 def main():
-    header = source("include/hisproat.h")
-    numbers = {name: int(n) for name, n in re.findall(r"\b(HISPROAT_\w+) = (\d+)", header)}
+    header, reader = source("include/hisproat.h"), source("include/hisproat_frame_reader.h")
+    numbers = {name: int(n) for name, n in re.findall(r"\b(HISPROAT_\w+) = (\d+)", header + reader)}
 
     def under(prefix):
         return {name[len(prefix):]: n for name, n in numbers.items() if name.startswith(prefix) and name not in CONSTANTS}
@@ -105,7 +108,8 @@ def main():
         ("outcome", under("HISPROAT_OUTCOME_"), arms(BYTES, "outcome_number", "Outcome")),
         ("state", under("HISPROAT_STATE_"), arms(STATES, "number", "ConnectionState")),
         ("kind", under("HISPROAT_KIND_"), {name: int(n) for name, n in re.findall(r"\bconst KIND_(\w+): u8 = (\d+);", source(LIBRARY))}),
-        ("function", prototypes(header), exported()),
+        ("function", prototypes(header), exported(LIBRARY)),
+        ("the reader's function", prototypes(reader), exported(READER)),
         ("size", {size: numbers.get(size) for _, _, size in ANSWERS}, {size: numbers.get(last, 0) + width for last, width, size in ANSWERS}),
     ]
     faults = [fault for table in tables for fault in compared(*table)]
