@@ -4,3 +4,4 @@ pub mod Laws
 pub mod Frames
 pub mod Calls
 pub mod Ending
+pub mod Keeping

@@ -65,10 +65,10 @@ module _ (s a : List ℕ) (read : EngineRead) (reads : ReadsEngine s read) where
   -- ---- an event
 
   module _ (event : Event) (was-fine : not (read .fine) ≡ false) (room : 42 ≤ length a) where
-    fine : read .fine ≡ true
+    pub fine : read .fine ≡ true
     fine = not-false (read .fine) was-fine
 
-    state-after : (reply : Verdict Reply) (out : List ℕ) (later : ConnectionEngine) → Does event (read .engine) reply out later
+    pub state-after : (reply : Verdict Reply) (out : List ℕ) (later : ConnectionEngine) → Does event (read .engine) reply out later
         → stateAfter reply s later ≡ engineBytes (roleOf (read .engine)) (settingsOf (read .engine)) (next (roleOf (read .engine)) (settingsOf (read .engine)) (viewOf (read .engine)) event)
     state-after (refuse j) out later d =
         reads .yes fine .are
@@ -79,7 +79,7 @@ module _ (s a : List ℕ) (read : EngineRead) (reads : ReadsEngine s read) where
         ∙ ap (λ r. engineBytes r (settingsOf later) (viewOf later)) (d .same-role)
         ∙ ap₂ (engineBytes (roleOf (read .engine))) (d .same-settings) (d .meets (reads .sound) .leaves)
 
-    crosses-as :
+    pub crosses-as :
         (reply : Verdict Reply) (out : List ℕ) (later : ConnectionEngine) (k : ℕ) (s′ a′ : List ℕ) → Does event (read .engine) reply out later
         → k ≡ returnedBy reply → a′ ≡ answerAfter reply a → s′ ≡ stateAfter reply s later
         → crossing k s′ a′ out ≡ crossed (roleOf (read .engine)) (settingsOf (read .engine)) (viewOf (read .engine)) event a
@@ -90,7 +90,7 @@ module _ (s a : List ℕ) (read : EngineRead) (reads : ReadsEngine s read) where
         ∙ crossed-long (roleOf (read .engine)) (settingsOf (read .engine)) (viewOf (read .engine)) event room
 
     -- bytes stand for one engine only, so that what holds of the one that was read holds of any
-    all-stand : (c : Crossing) → c ≡ crossed (roleOf (read .engine)) (settingsOf (read .engine)) (viewOf (read .engine)) event a → Crosses event s a c
+    pub all-stand : (c : Crossing) → c ≡ crossed (roleOf (read .engine)) (settingsOf (read .engine)) (viewOf (read .engine)) event a → Crosses event s a c
     all-stand c e = record {
       stands = λ role S x z.
           let o = stand-once (reads .yes fine) z in
@@ -100,14 +100,13 @@ module _ (s a : List ℕ) (read : EngineRead) (reads : ReadsEngine s read) where
 
     pub crosses :
         (reply : Verdict Reply) (out : List ℕ) (later : ConnectionEngine) (v : Option (Verdict Answer)) (done : Done) (k : ℕ) (s′ a′ : List ℕ) → Does event (read .engine) reply out later
-        → Amounts done v reply later → Finishes done s a k s′ a′ → Crosses event s a (crossing k s′ a′ out)
+        → Amounts done v reply → Finishes done later s a k s′ a′ → Crosses event s a (crossing k s′ a′ out)
     crosses reply out later v done k s′ a′ d m f =
-        let z : Sound (done .engine) = subst Sound (sym (m .amounts-engine)) (d .meets (reads .sound) .sound) in
         all-stand (crossing k s′ a′ out)
         (crosses-as reply out later k s′ a′ d
         (f .finishes-number v ∙ ap returnedBy (m .amounts-reply))
         (f .finishes-answer v (m .amounts-inner) ∙ ap (λ r. answerAfter r a) (m .amounts-reply))
-        (f .finishes-state z v ∙ ap₂ (λ r e. stateAfter r s e) (m .amounts-reply) (m .amounts-engine)))
+        (f .finishes-state (d .meets (reads .sound) .sound) v ∙ ap (λ r. stateAfter r s later) (m .amounts-reply)))
 
 -- ---- a flag that is handed over as a number
 

@@ -2,5 +2,6 @@
 pub mod Telling
 pub mod Laying
 pub mod Crossings
+pub mod Keeping
 pub mod Starting
 pub mod Readings

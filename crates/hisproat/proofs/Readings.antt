@@ -41,7 +41,7 @@ use Rattle.engine_bytes.proofs.Laws.{stand-once}
 use Rattle.hisproat.specs.Answers.{statusBytes, takenBytes, tiedBytes}
 use Rattle.hisproat.specs.Crossing.{Told, Reads}
 use Rattle.hisproat.specs.Promises.{PutsChannels, PutsStatus}
-use Rattle.hisproat.proofs.Laying.{first, more}
+use Rattle.layout.proofs.Parts.{first, more}
 
 -- ---- a number that may be absent
 

@@ -33,7 +33,6 @@ use Rattle.endpoint.specs.Answers.{answerSays, sentSays, deallocateSays}
 use Rattle.endpoint.specs.declared.FrameAnswer.{FrameAnswer}
 use Rattle.endpoint.specs.declared.FrameAnswer.the-variants.{NothingToDo, Opened, Closed, Forward, Began, Refused as NoFrame}
 use Rattle.endpoint.proofs.FrameAnswer.{the-type as frame-type}
-use Rattle.engine.specs.declared.ConnectionEngine.{ConnectionEngine}
 use Rattle.engine.specs.declared.Running.{Running}
 use Rattle.engine.specs.declared.Running.the-variants.{Continue, Refused}
 use Rattle.engine.specs.Answers.{replySays, openingSays, sentCount, tickCount}
@@ -146,23 +145,23 @@ runs-not (NoHeader j) k e = let z : j ≡ k = cc in ap Refused (sym z)
 
 -- ---- what an event amounts to
 
-abbrev doneOf : Running → ℕ → ℕ → I.Inner → ConnectionEngine → Done
-doneOf run consumed written i e = record { running = run; consumed = consumed; written = written; inner = i; engine = e }
+abbrev doneOf : Running → ℕ → ℕ → I.Inner → Done
+doneOf run consumed written i = record { running = run; consumed = consumed; written = written; inner = i }
 
-module _ (i : I.Inner) (e : ConnectionEngine) where
-  pub amounts-sent : (a : Written) (n : ℕ) → a ≡ Bytes n → innerSays i ≡ innerOf (some (sentSays a)) → Amounts (doneOf Continue 0 n i e) (some (sentSays a)) (openingSays 0 (sentCount a) (sentSays a)) e
-  amounts-sent a n q p = record { amounts-inner = p; amounts-reply = rw q refl; amounts-engine = refl }
+module _ (i : I.Inner) where
+  pub amounts-sent : (a : Written) (n : ℕ) → a ≡ Bytes n → innerSays i ≡ innerOf (some (sentSays a)) → Amounts (doneOf Continue 0 n i) (some (sentSays a)) (openingSays 0 (sentCount a) (sentSays a))
+  amounts-sent a n q p = record { amounts-inner = p; amounts-reply = rw q refl }
 
-  pub amounts-unsent : (a : Written) (k : ℕ) → a ≡ NotWritten k → innerSays i ≡ innerOf (some (sentSays a)) → Amounts (doneOf (Refused k) 0 0 i e) (some (sentSays a)) (openingSays 0 (sentCount a) (sentSays a)) e
-  amounts-unsent a k q p = record { amounts-inner = p; amounts-reply = rw q refl; amounts-engine = refl }
+  pub amounts-unsent : (a : Written) (k : ℕ) → a ≡ NotWritten k → innerSays i ≡ innerOf (some (sentSays a)) → Amounts (doneOf (Refused k) 0 0 i) (some (sentSays a)) (openingSays 0 (sentCount a) (sentSays a))
+  amounts-unsent a k q p = record { amounts-inner = p; amounts-reply = rw q refl }
 
   received-says : (a : HeaderAnswer) (run : Running) → HeaderRuns a run → replySays run 8 0 (some (headerSays a)) ≡ openingSays 8 0 (headerSays a)
   received-says (Amqp n) run h = ap (λ x. replySays x 8 0 (some (headerSays (Amqp n)))) h
   received-says (OtherProtocol n) run h = ap (λ x. replySays x 8 0 (some (headerSays (OtherProtocol n)))) h
   received-says (NoHeader k) run h = ap (λ x. replySays x 8 0 (some (headerSays (NoHeader k)))) h
 
-  pub amounts-received : (a : HeaderAnswer) (run : Running) → HeaderRuns a run → innerSays i ≡ innerOf (some (headerSays a)) → Amounts (doneOf run 8 0 i e) (some (headerSays a)) (openingSays 8 0 (headerSays a)) e
-  amounts-received a run h p = record { amounts-inner = p; amounts-reply = received-says a run h; amounts-engine = refl }
+  pub amounts-received : (a : HeaderAnswer) (run : Running) → HeaderRuns a run → innerSays i ≡ innerOf (some (headerSays a)) → Amounts (doneOf run 8 0 i) (some (headerSays a)) (openingSays 8 0 (headerSays a))
+  amounts-received a run h p = record { amounts-inner = p; amounts-reply = received-says a run h }
 
-  pub amounts-ticked : (a : TickAnswer) (run : Running) (n : ℕ) → n ≡ tickCount a → innerSays i ≡ innerOf (some (tickSays a)) → Amounts (doneOf run 0 n i e) (some (tickSays a)) (replySays run 0 (tickCount a) (some (tickSays a))) e
-  amounts-ticked a run n q p = record { amounts-inner = p; amounts-reply = ap (λ m. replySays run 0 m (some (tickSays a))) q; amounts-engine = refl }
+  pub amounts-ticked : (a : TickAnswer) (run : Running) (n : ℕ) → n ≡ tickCount a → innerSays i ≡ innerOf (some (tickSays a)) → Amounts (doneOf run 0 n i) (some (tickSays a)) (replySays run 0 (tickCount a) (some (tickSays a)))
+  amounts-ticked a run n q p = record { amounts-inner = p; amounts-reply = ap (λ m. replySays run 0 m (some (tickSays a))) q }

@@ -5,15 +5,8 @@ use connection::AllocateAnswer;
 use connection::HeaderAnswer;
 use connection::TickAnswer;
 use endpoint::FrameAnswer;
+use endpoint::Role;
 use engine::ConnectionEngine;
-use engine::OnAllocate;
-use engine::OnDeallocate;
-use engine::OnError;
-use engine::OnHeartbeat;
-use engine::OnIncoming;
-use engine::OnOutgoing;
-use engine::OpeningReceived;
-use engine::OpeningSent;
 use engine::Running;
 use octets::Written;
 use octets::put_number;
@@ -22,11 +15,12 @@ ghost use mathlib.Core.List.{_++_};
 ghost use mathlib.Core.Option.{none, some};
 ghost use Rattle.octets.specs.Octets.{bytesOf, put};
 ghost use Rattle.connection.specs.View.{headerSays, allocateSays, tickSays};
-ghost use Rattle.endpoint.specs.Answers.{answerSays, sentSays, deallocateSays};
+ghost use Rattle.endpoint.specs.Answers.{roleSays, answerSays, sentSays, deallocateSays};
 ghost use Rattle.engine.specs.Answers.{replySays, openingSays, sentCount, tickCount};
 ghost use Rattle.hisproat.specs.Answers.{inner, innerOf, innerBytes};
 ghost use Rattle.channels.specs.Numbers.{one};
 ghost use Rattle.hisproat.specs.Promises.{innerSays, HeaderRuns, Amounts, Lays, Finishes};
+ghost use Rattle.hisproat.specs.Promises.{between, passedOn, sentOn, Tells, FinishesKept};
 
 // What the connection's call inside an event answered.
 const KIND_NONE: u8 = 0;
@@ -55,8 +49,10 @@ const KIND_CHANNEL: u8 = 11;
 
 const KIND_FREED: u8 = 12;
 
-// The code of a Begin.
+// The codes of a Begin and an End.
 const BEGIN: u8 = 17;
+
+const END: u8 = 23;
 
 // What the call inside answered, in numbers. What a kind does not have is zero.
 pub struct Inner {
@@ -68,13 +64,12 @@ pub struct Inner {
     len: usize,
 }
 
-// What came of an event.
+// What came of an event, besides the engine.
 pub struct Done {
     running: Running,
     consumed: usize,
     written: usize,
     inner: Inner,
-    engine: ConnectionEngine,
 }
 
 // An answer of a kind, with a detail and nothing else.
@@ -214,11 +209,9 @@ fn body(kind: u8, code: u8, channel: u16, handle: u32, from: usize, len: usize) 
 }
 
 // What a call that opens the connection and writes came to.
-pub fn opening_sent(on: OpeningSent) -> Done
-    ensures { λ r. ⌜ Amounts r (some (sentSays (on .answer))) (openingSays 0 (sentCount (on .answer)) (sentSays (on .answer))) (on .engine) ⌝ }
+pub fn opening_sent(answer: Written) -> Done
+    ensures { λ r. ⌜ Amounts r (some (sentSays answer)) (openingSays 0 (sentCount answer) (sentSays answer)) ⌝ }
 {
-    let answer = on.answer;
-    let engine = on.engine;
     let inner = written_inner(answer);
     match answer {
         Written::Bytes(n) => Done {
@@ -226,14 +219,12 @@ pub fn opening_sent(on: OpeningSent) -> Done
             consumed: 0,
             written: n,
             inner,
-            engine,
         },
         Written::Refused(k) => Done {
             running: Running::Refused(k),
             consumed: 0,
             written: 0,
             inner,
-            engine,
         },
     }
 }
@@ -250,47 +241,36 @@ fn header_running(answer: HeaderAnswer) -> Running
 }
 
 // What a header that came led to.
-pub fn opening_received(on: OpeningReceived) -> Done
-    ensures { λ r. ⌜ Amounts r (some (headerSays (on .answer))) (openingSays 8 0 (headerSays (on .answer))) (on .engine) ⌝ }
+pub fn opening_received(answer: HeaderAnswer) -> Done
+    ensures { λ r. ⌜ Amounts r (some (headerSays answer)) (openingSays 8 0 (headerSays answer)) ⌝ }
 {
-    let answer = on.answer;
-    let engine = on.engine;
     Done {
         running: header_running(answer),
         consumed: 8,
         written: 0,
         inner: header_inner(answer),
-        engine,
     }
 }
 
-pub fn allocated(on: OnAllocate) -> Done
-    ensures { λ r. ⌜ Amounts r (some (allocateSays (on .answer))) (replySays (on .running) 0 0 (some (allocateSays (on .answer)))) (on .engine) ⌝ }
+pub fn allocated(running: Running, answer: AllocateAnswer) -> Done
+    ensures { λ r. ⌜ Amounts r (some (allocateSays answer)) (replySays running 0 0 (some (allocateSays answer))) ⌝ }
 {
-    let running = on.running;
-    let answer = on.answer;
-    let engine = on.engine;
     Done {
         running,
         consumed: 0,
         written: 0,
         inner: allocate_inner(answer),
-        engine,
     }
 }
 
-pub fn deallocated(on: OnDeallocate) -> Done
-    ensures { λ r. ⌜ Amounts r (some (deallocateSays (on .answer))) (replySays (on .running) 0 0 (some (deallocateSays (on .answer)))) (on .engine) ⌝ }
+pub fn deallocated(running: Running, answer: Held) -> Done
+    ensures { λ r. ⌜ Amounts r (some (deallocateSays answer)) (replySays running 0 0 (some (deallocateSays answer))) ⌝ }
 {
-    let running = on.running;
-    let answer = on.answer;
-    let engine = on.engine;
     Done {
         running,
         consumed: 0,
         written: 0,
         inner: deallocate_inner(answer),
-        engine,
     }
 }
 
@@ -305,64 +285,92 @@ fn tick_count(answer: TickAnswer) -> usize
     }
 }
 
-pub fn ticked(on: OnHeartbeat) -> Done
-    ensures { λ r. ⌜ Amounts r (some (tickSays (on .answer))) (replySays (on .running) 0 (tickCount (on .answer)) (some (tickSays (on .answer)))) (on .engine) ⌝ }
+pub fn ticked(running: Running, answer: TickAnswer) -> Done
+    ensures { λ r. ⌜ Amounts r (some (tickSays answer)) (replySays running 0 (tickCount answer) (some (tickSays answer))) ⌝ }
 {
-    let answer = on.answer;
-    let running = on.running;
-    let engine = on.engine;
     Done {
         running,
         consumed: 0,
         written: tick_count(answer),
         inner: tick_inner(answer),
-        engine,
     }
 }
 
-pub fn sent(on: OnOutgoing) -> Done
-    ensures { λ r. ⌜ Amounts r (some (sentSays (on .answer))) (replySays (on .running) 0 (on .written) (some (sentSays (on .answer)))) (on .engine) ⌝ }
+pub fn sent(running: Running, written: usize, answer: Written) -> Done
+    ensures { λ r. ⌜ Amounts r (some (sentSays answer)) (replySays running 0 written (some (sentSays answer))) ⌝ }
 {
-    let running = on.running;
-    let answer = on.answer;
-    let engine = on.engine;
     Done {
         running,
         consumed: 0,
-        written: on.written,
+        written,
         inner: written_inner(answer),
-        engine,
     }
 }
 
-pub fn received(on: OnIncoming) -> Done
-    ensures { λ r. ⌜ Amounts r (some (answerSays (on .answer))) (replySays (on .running) (on .consumed) (on .written) (some (answerSays (on .answer)))) (on .engine) ⌝ }
+pub fn received(running: Running, consumed: usize, written: usize, answer: FrameAnswer) -> Done
+    ensures { λ r. ⌜ Amounts r (some (answerSays answer)) (replySays running consumed written (some (answerSays answer))) ⌝ }
 {
-    let running = on.running;
-    let answer = on.answer;
-    let engine = on.engine;
     Done {
         running,
-        consumed: on.consumed,
-        written: on.written,
+        consumed,
+        written,
         inner: frame_inner(answer),
-        engine,
     }
 }
 
 // What the error path came to: no call of the connection is told of.
-pub fn handled(on: OnError) -> Done
-    ensures { λ r. ⌜ Amounts r none (replySays (on .running) 0 (on .written) none) (on .engine) ⌝ }
+pub fn handled(running: Running, written: usize) -> Done
+    ensures { λ r. ⌜ Amounts r none (replySays running 0 written none) ⌝ }
 {
-    let running = on.running;
-    let engine = on.engine;
     Done {
         running,
         consumed: 0,
-        written: on.written,
+        written,
         inner: plain(KIND_NONE, 0),
-        engine,
     }
+}
+
+// Whether a performative stands between a Begin and an End.
+fn is_between(code: u8) -> bool
+    ensures { λ r. ⌜ r ≡ between code ⌝ }
+{
+    if code == BEGIN {
+        return false;
+    }
+    code != END
+}
+
+// Whether a frame only went on to its session: it is neither a Begin nor an End, and leaves the engine as it was.
+pub fn passed_on(answer: FrameAnswer) -> bool
+    ensures { λ r. ⌜ r ≡ passedOn (answerSays answer) ⌝ }
+{
+    let FrameAnswer::Forward {
+        consumed: _,
+        code,
+        handle: _,
+        from: _,
+        len: _,
+    } = answer
+    else {
+        return false;
+    };
+    is_between(code)
+}
+
+// Whether a session's frame went out that leaves the engine as it was, as every one of a dialler does.
+pub fn sent_on(role: Role, running: Running, answer: Written) -> bool
+    ensures { λ r. ⌜ r ≡ sentOn (roleSays role) running (sentSays answer) ⌝ }
+{
+    let Role::Dialler = role else {
+        return false;
+    };
+    let Running::Continue = running else {
+        return false;
+    };
+    let Written::Bytes(_) = answer else {
+        return false;
+    };
+    true
 }
 
 // Lays what the call inside answered into the answer.
@@ -395,23 +403,29 @@ fn put_answer(stopped: u8, outcome: u8, done: Done, answer: &mut [u8])
 }
 
 // Lays the answer of an event that was done, and the engine's bytes.
-fn lay(stopped: u8, outcome: u8, done: Done, state: &mut [u8], answer: &mut [u8])
-    ensures { λ _. ⌜ Lays stopped outcome done (now (state .entry)) (now (answer .entry)) (now (state .exit)) (now (answer .exit)) ⌝ }
+fn lay(
+    stopped: u8,
+    outcome: u8,
+    done: Done,
+    engine: ConnectionEngine,
+    state: &mut [u8],
+    answer: &mut [u8],
+)
+    ensures { λ _. ⌜ Lays stopped outcome done engine (now (state .entry)) (now (answer .entry)) (now (state .exit)) (now (answer .exit)) ⌝ }
 {
     put_answer(stopped, outcome, done, answer);
-    let engine = done.engine;
     engine_bytes::write(engine, state);
 }
 
-// Lays the answer of an event and the engine's bytes, unless the event was refused, and tells its refusal or 0.
-pub fn finish(done: Done, state: &mut [u8], answer: &mut [u8]) -> u8
-    ensures { λ r. ⌜ Finishes done (now (state .entry)) (now (answer .entry)) r (now (state .exit)) (now (answer .exit)) ⌝ }
+// Lays the answer of an event and the bytes of the engine afterwards, unless the event was refused, and tells its refusal or 0.
+pub fn finish(done: Done, engine: ConnectionEngine, state: &mut [u8], answer: &mut [u8]) -> u8
+    ensures { λ r. ⌜ Finishes done engine (now (state .entry)) (now (answer .entry)) r (now (state .exit)) (now (answer .exit)) ⌝ }
 {
     let running = done.running;
     match running {
         Running::Refused(k) => k,
         Running::Continue => {
-            lay(0, 0, done, state, answer);
+            lay(0, 0, done, engine, state, answer);
             0
         }
         Running::Stop(outcome) => {
@@ -419,10 +433,45 @@ pub fn finish(done: Done, state: &mut [u8], answer: &mut [u8]) -> u8
                 1,
                 engine_bytes::outcome_number(outcome),
                 done,
+                engine,
                 state,
                 answer,
             );
             0
         }
     }
+}
+
+// Lays the answer of an event, unless the event was refused, and tells its refusal or 0.
+fn tell(done: Done, answer: &mut [u8]) -> u8
+    ensures { λ r. ⌜ Tells done (now (answer .entry)) r (now (answer .exit)) ⌝ }
+{
+    let running = done.running;
+    match running {
+        Running::Refused(refusal) => refusal,
+        Running::Continue => {
+            put_answer(0, 0, done, answer);
+            0
+        }
+        Running::Stop(outcome) => {
+            put_answer(1, engine_bytes::outcome_number(outcome), done, answer);
+            0
+        }
+    }
+}
+
+// The same as `finish`, where the bytes of an engine that is known to be as it was are not laid again.
+pub fn finish_kept(
+    kept: bool,
+    done: Done,
+    engine: ConnectionEngine,
+    state: &mut [u8],
+    answer: &mut [u8],
+) -> u8
+    ensures { λ r. ⌜ FinishesKept kept done engine (now (state .entry)) (now (answer .entry)) r (now (state .exit)) (now (answer .exit)) ⌝ }
+{
+    if kept {
+        return tell(done, answer);
+    }
+    finish(done, engine, state, answer)
 }

@@ -3,6 +3,7 @@
 mod answers;
 
 use answers::finish;
+use answers::finish_kept;
 use channels::AgreedMax;
 use channels::Held;
 use connection::Connection;
@@ -182,7 +183,9 @@ pub extern "C" fn hisproat_send_header(state: &mut [u8], output: &mut [u8], answ
     }
     let engine = read.engine;
     let header = engine.send_header(output);
-    finish(answers::opening_sent(header), state, answer)
+    let wrote = header.answer;
+    let after = header.engine;
+    finish(answers::opening_sent(wrote), after, state, answer)
 }
 
 // Reads the peer's protocol header.
@@ -199,7 +202,9 @@ pub extern "C" fn hisproat_receive_header(state: &mut [u8], input: &[u8], answer
     }
     let engine = read.engine;
     let came = engine.receive_header(input);
-    finish(answers::opening_received(came), state, answer)
+    let answered = came.answer;
+    let after = came.engine;
+    finish(answers::opening_received(answered), after, state, answer)
 }
 
 // Writes the Open.
@@ -216,7 +221,9 @@ pub extern "C" fn hisproat_send_open(state: &mut [u8], output: &mut [u8], answer
     }
     let engine = read.engine;
     let opening = engine.send_open(output);
-    finish(answers::opening_sent(opening), state, answer)
+    let opened = opening.answer;
+    let after = opening.engine;
+    finish(answers::opening_sent(opened), after, state, answer)
 }
 
 // A frame came. `spare` is the handle that a listener's new session would get, `waiting` the session frames that wait to be sent.
@@ -240,7 +247,12 @@ pub extern "C" fn hisproat_on_incoming(
     }
     let engine = read.engine;
     let taken = engine.on_incoming(frame, spare, waiting, output);
-    finish(answers::received(taken), state, answer)
+    let running = taken.running;
+    let answered = taken.answer;
+    let after = taken.engine;
+    let kept = answers::passed_on(answered);
+    let received = answers::received(running, taken.consumed, taken.written, answered);
+    finish_kept(kept, received, after, state, answer)
 }
 
 // Sends the session frames that wait, and then a Close.
@@ -262,7 +274,11 @@ pub extern "C" fn hisproat_on_close(
     }
     let engine = read.engine;
     let closing = engine.on_close(waiting, output);
-    finish(answers::sent(closing), state, answer)
+    let running = closing.running;
+    let answered = closing.answer;
+    let after = closing.engine;
+    let closed = answers::sent(running, closing.written, answered);
+    finish(closed, after, state, answer)
 }
 
 // Sends the session frames that wait, and then a Close with an error.
@@ -293,7 +309,11 @@ pub extern "C" fn hisproat_on_close_with_error(
         waiting,
         output,
     );
-    finish(answers::sent(order), state, answer)
+    let running = order.running;
+    let answered = order.answer;
+    let after = order.engine;
+    let ordered = answers::sent(running, order.written, answered);
+    finish(ordered, after, state, answer)
 }
 
 // Hands out a channel to the handle.
@@ -310,7 +330,10 @@ pub extern "C" fn hisproat_on_allocate(state: &mut [u8], handle: u32, answer: &m
     }
     let engine = read.engine;
     let given = engine.on_allocate(handle);
-    finish(answers::allocated(given), state, answer)
+    let running = given.running;
+    let answered = given.answer;
+    let after = given.engine;
+    finish(answers::allocated(running, answered), after, state, answer)
 }
 
 // Frees a channel.
@@ -327,7 +350,15 @@ pub extern "C" fn hisproat_on_deallocate(state: &mut [u8], channel: u16, answer:
     }
     let engine = read.engine;
     let freed = engine.on_deallocate(channel);
-    finish(answers::deallocated(freed), state, answer)
+    let running = freed.running;
+    let answered = freed.answer;
+    let after = freed.engine;
+    finish(
+        answers::deallocated(running, answered),
+        after,
+        state,
+        answer,
+    )
 }
 
 // Sends a session's frame.
@@ -348,8 +379,14 @@ pub extern "C" fn hisproat_on_outgoing(
         return NO_ROOM;
     }
     let engine = read.engine;
+    let connection = engine.connection();
     let sent = engine.on_outgoing_session_frame(frame, output);
-    finish(answers::sent(sent), state, answer)
+    let running = sent.running;
+    let answered = sent.answer;
+    let after = sent.engine;
+    let kept = answers::sent_on(connection.role(), running, answered);
+    let done = answers::sent(running, sent.written, answered);
+    finish_kept(kept, done, after, state, answer)
 }
 
 // It is time for a heartbeat.
@@ -366,7 +403,10 @@ pub extern "C" fn hisproat_on_tick(state: &mut [u8], output: &mut [u8], answer: 
     }
     let engine = read.engine;
     let beat = engine.on_heartbeat(output);
-    finish(answers::ticked(beat), state, answer)
+    let running = beat.running;
+    let answered = beat.answer;
+    let after = beat.engine;
+    finish(answers::ticked(running, answered), after, state, answer)
 }
 
 // The peer sends no more.
@@ -387,7 +427,10 @@ pub extern "C" fn hisproat_on_end_of_input(
     }
     let engine = read.engine;
     let ended = engine.on_end_of_input(output);
-    finish(answers::handled(ended), state, answer)
+    let running = ended.running;
+    let after = ended.engine;
+    let over = answers::handled(running, ended.written);
+    finish(over, after, state, answer)
 }
 
 // What came could not be delivered to its session.
@@ -409,7 +452,10 @@ pub extern "C" fn hisproat_on_not_delivered(
     }
     let engine = read.engine;
     let told = engine.on_not_delivered(is_set(new_session), output);
-    finish(answers::handled(told), state, answer)
+    let running = told.running;
+    let after = told.engine;
+    let failed = answers::handled(running, told.written);
+    finish(failed, after, state, answer)
 }
 
 // Tells role, phase, outcome, state, limits, and how many channels are taken.

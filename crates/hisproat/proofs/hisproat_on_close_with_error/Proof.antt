@@ -45,7 +45,7 @@ returns-3 : tie.Need-returns-3
 returns-3 c =
     let f = c .before .before .before .before in
     let t = f .before .before .before in
-    let e = t .before .before .before in
+    let e = t .before .before .before .before in
     let b = e .before .before in
     let k = b .before .before in
     let i = k .before in

@@ -1,7 +1,8 @@
--- `hisproat_on_incoming`: 8, 9, or the event done.
+-- `hisproat_on_incoming`: 8, 9, or the event done; a frame that only goes on leaves the state as it is.
 -- Assumes nothing.
 use borrow.Author.Needs.{needs}
-use Rattle.hisproat.proofs.Crossings.{crosses-broken, crosses-short, crosses}
+use Rattle.hisproat.proofs.Crossings.{crosses-broken, crosses-short}
+use Rattle.hisproat.proofs.Keeping.{keeps-passed, crosses-kept}
 use Rattle.hisproat.proofs.hisproat_on_incoming.Statement.{statement}
 use Rattle.hisproat.proofs.hisproat_on_incoming.Tie as tie
 
@@ -23,11 +24,14 @@ returns-2 c = crosses-short _ _ _ (c .before .before .before .from-bytes .ensure
 on-incoming-requires : tie.Need-on-incoming-requires
 on-incoming-requires c κs = search needs
 
+passed-on-requires : tie.Need-passed-on-requires
+passed-on-requires c κs = search needs
+
 received-requires : tie.Need-received-requires
 received-requires c κs = search needs
 
-finish-requires : tie.Need-finish-requires
-finish-requires c κs = search needs
+finish-kept-requires : tie.Need-finish-kept-requires
+finish-kept-requires c κs = search needs
 
 same-length-3 : tie.Need-same-length-3
 same-length-3 c = search needs
@@ -42,11 +46,14 @@ returns-3 : tie.Need-returns-3
 returns-3 c =
     let f = c .before .before .before .before in
     let t = f .before .before .before in
-    let e = t .before .before .before in
+    let p = t .before in
+    let e = p .before .before .before .before in
     let k = e .before .before .before in
     let i = k .before in
     let r = i .before .before in
-    crosses _ _ _ (r .from-bytes .ensures) _ (i .if1 .left) (k .if2 .left) _ _ _ _ _ _ _ _ (e .on-incoming .ensures .0) (t .received .ensures) (f .finish .ensures)
+    let d = e .on-incoming .ensures .0 in
+    crosses-kept _ _ _ (r .from-bytes .ensures) _ (i .if1 .left) (k .if2 .left) _ _ _ _ _ _ _ _ _ d (t .received .ensures) (f .finish-kept .ensures)
+    (keeps-passed _ _ (r .from-bytes .ensures .sound) _ _ _ _ _ (e .on-incoming .result .running) (e .on-incoming .result .consumed) (e .on-incoming .result .written) (e .on-incoming .result .answer) _ (p .passed-on .ensures) d)
 
 pub hisproat-on-incoming-spec : {M : Type 1} → statement M
 hisproat-on-incoming-spec =
@@ -58,8 +65,9 @@ hisproat-on-incoming-spec =
     same-length-2
     returns-2
     on-incoming-requires
+    passed-on-requires
     received-requires
-    finish-requires
+    finish-kept-requires
     same-length-3
     same-length-4
     same-length-5

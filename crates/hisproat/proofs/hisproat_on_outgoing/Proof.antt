@@ -1,7 +1,10 @@
--- `hisproat_on_outgoing`: 8, 9, or the event done.
+-- `hisproat_on_outgoing`: 8, 9, or the event done; a dialler's frame leaves the state as it is.
 -- Assumes nothing.
+use mathlib.Core.Path.{_∙_, ap}
 use borrow.Author.Needs.{needs}
-use Rattle.hisproat.proofs.Crossings.{crosses-broken, crosses-short, crosses}
+use Rattle.connection.specs.View.{roleOf}
+use Rattle.hisproat.proofs.Crossings.{crosses-broken, crosses-short}
+use Rattle.hisproat.proofs.Keeping.{keeps-sent, crosses-kept}
 use Rattle.hisproat.proofs.hisproat_on_outgoing.Statement.{statement}
 use Rattle.hisproat.proofs.hisproat_on_outgoing.Tie as tie
 
@@ -20,14 +23,23 @@ same-length-2 c = search needs
 returns-2 : tie.Need-returns-2
 returns-2 c = crosses-short _ _ _ (c .before .before .before .from-bytes .ensures) _ (c .before .if1 .left) (c .if2 .taken)
 
+connection-requires : tie.Need-connection-requires
+connection-requires c κs = search needs
+
 on-outgoing-session-frame-requires : tie.Need-on-outgoing-session-frame-requires
 on-outgoing-session-frame-requires c κs = search needs
+
+role-requires : tie.Need-role-requires
+role-requires c κs = search needs
+
+sent-on-requires : tie.Need-sent-on-requires
+sent-on-requires c κs = search needs
 
 sent-requires : tie.Need-sent-requires
 sent-requires c κs = search needs
 
-finish-requires : tie.Need-finish-requires
-finish-requires c κs = search needs
+finish-kept-requires : tie.Need-finish-kept-requires
+finish-kept-requires c κs = search needs
 
 same-length-3 : tie.Need-same-length-3
 same-length-3 c = search needs
@@ -42,11 +54,16 @@ returns-3 : tie.Need-returns-3
 returns-3 c =
     let f = c .before .before .before .before in
     let t = f .before .before .before in
-    let e = t .before .before .before in
-    let k = e .before .before .before in
+    let p = t .before in
+    let o = p .before in
+    let e = o .before .before .before .before in
+    let n = e .before .before in
+    let k = n .before .before in
     let i = k .before in
     let r = i .before .before in
-    crosses _ _ _ (r .from-bytes .ensures) _ (i .if1 .left) (k .if2 .left) _ _ _ _ _ _ _ _ (e .on-outgoing-session-frame .ensures .0) (t .sent .ensures) (f .finish .ensures)
+    let d = e .on-outgoing-session-frame .ensures .0 in
+    crosses-kept _ _ _ (r .from-bytes .ensures) _ (i .if1 .left) (k .if2 .left) _ _ _ _ _ _ _ _ _ d (t .sent .ensures) (f .finish-kept .ensures)
+    (keeps-sent _ _ (r .from-bytes .ensures .sound) _ _ _ _ _ _ (e .on-outgoing-session-frame .result .answer) _ (o .role .ensures ∙ ap roleOf (n .connection .ensures)) (p .sent-on .ensures) d)
 
 pub hisproat-on-outgoing-spec : {M : Type 1} → statement M
 hisproat-on-outgoing-spec =
@@ -57,9 +74,12 @@ hisproat-on-outgoing-spec =
     returns
     same-length-2
     returns-2
+    connection-requires
     on-outgoing-session-frame-requires
+    role-requires
+    sent-on-requires
     sent-requires
-    finish-requires
+    finish-kept-requires
     same-length-3
     same-length-4
     same-length-5
