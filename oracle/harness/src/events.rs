@@ -3,8 +3,12 @@
 use std::fmt;
 
 use fe2o3_amqp::auth as rust;
+use fe2o3_amqp_types::performatives::Performative;
+use serde::{Deserialize, Serialize};
+use serde_amqp::de::Deserializer;
 use serde_amqp::raw;
 use serde_amqp::read::{Read, SliceReader};
+use serde_amqp::ser::Serializer;
 
 /// An event that both sides are given.
 #[derive(Debug, Clone, PartialEq, Eq)]
@@ -154,6 +158,16 @@ pub fn open(max_frame_size: u32, channel_max: u16, idle_time_out: Option<u32>) -
     frame(0, &body(16, &[b"\xa1\x04peer", b"\x40", &uint(max_frame_size), &ushort(channel_max), &idle]))
 }
 
+/// The Open that settings make.
+pub fn local_open(settings: &rust::Settings) -> Vec<u8> {
+    let id = [&[0xa1, settings.container_id.len() as u8][..], &settings.container_id].concat();
+    let size = raw::Raw::of_uint(settings.max_frame_size).0;
+    let most = ushort(settings.channel_max);
+    let idle = settings.idle_time_out.map(|idle| raw::Raw::of_uint(idle).0);
+    let fields = [Some(&id[..]), Some(b"\x40"), Some(&size), Some(&most), idle.as_deref()];
+    frame(0, &body(16, &fields.into_iter().flatten().collect::<Vec<_>>()))
+}
+
 pub fn begin(channel: u16, remote: Option<u16>) -> Vec<u8> {
     let remote = remote.map_or(vec![0x40], ushort);
     frame(channel, &body(17, &[&remote, b"\x43", b"\x52\x10", b"\x52\x10"]))
@@ -186,8 +200,13 @@ pub fn end(channel: u16) -> Vec<u8> {
 }
 
 pub fn error(condition: &str, description: Option<&str>) -> Vec<u8> {
-    let symbol = [&[0xa3, condition.len() as u8][..], condition.as_bytes()].concat();
-    let words = description.map(|text| [&[0xa1, text.len() as u8][..], text.as_bytes()].concat());
+    error_of(condition.as_bytes(), description.map(str::as_bytes))
+}
+
+/// The same of bytes.
+pub fn error_of(condition: &[u8], description: Option<&[u8]>) -> Vec<u8> {
+    let symbol = [&[0xa3, condition.len() as u8][..], condition].concat();
+    let words = description.map(|text| [&[0xa1, text.len() as u8][..], text].concat());
     match words {
         Some(words) => body(29, &[&symbol, &words]),
         None => body(29, &[&symbol]),
@@ -217,12 +236,96 @@ pub fn split(mut bytes: &[u8]) -> Vec<&[u8]> {
     frames
 }
 
-pub fn is_close(frame: &[u8]) -> bool {
-    frame.get(8..11) == Some(&[0, 0x53, 24])
+/// A written frame without a Transfer's payload, its length set right. A header is as it is.
+pub fn without_payload(frame: &[u8]) -> Vec<u8> {
+    match frame.get(8..).and_then(performative) {
+        Some((Performative::Transfer(_), payload)) => crate::events::frame(channel(frame), &frame[8..frame.len() - payload.len()]),
+        _ => frame.to_vec(),
+    }
 }
 
-pub fn is_open(frame: &[u8]) -> bool {
-    frame.get(8..11) == Some(&[0, 0x53, 16])
+// ---- what document 01 says of bytes. The definition in plain Rust has its own code for this.
+
+/// The length that a frame begins with.
+pub fn size(frame: &[u8]) -> Option<usize> {
+    frame.get(..4).map(|head| u32::from_be_bytes(head.try_into().unwrap()) as usize)
+}
+
+pub fn channel(frame: &[u8]) -> u16 {
+    u16::from_be_bytes([frame[6], frame[7]])
+}
+
+/// The performative at the front of a body and the bytes after it, as the Rust reads them, which is by the stand-ins.
+pub fn performative(body: &[u8]) -> Option<(Performative, &[u8])> {
+    let mut reader = SliceReader::new(body);
+    raw::take(&mut reader).ok()?;
+    let rest = &body[body.len() - reader.rest().len()..];
+    let read = Performative::deserialize(&mut Deserializer::new(SliceReader::new(body))).ok()?;
+    Some((read, rest))
+}
+
+/// Whether a body that the Rust reads has a symbol for a descriptor: its own, or that of its error.
+pub fn is_symbolic(body: &[u8]) -> bool {
+    let of = |value: &[u8]| value.first() == Some(&0) && matches!(value.get(1), Some(0xa3 | 0xb3));
+    let Ok(whole) = raw::take(&mut SliceReader::new(body)).and_then(|raw| raw.composite()) else { return false };
+    let error = match whole.code {
+        22 => whole.field(2),
+        23 | 24 => whole.field(0),
+        _ => raw::Raw::null(),
+    };
+    of(body) || of(&error.0)
+}
+
+/// Whether a body is read by the Rust and malformed here.
+pub fn is_read_there_only(body: &[u8]) -> bool {
+    performative(body).is_some() && (is_symbolic(body) || depth(body) > 16)
+}
+
+/// The refusal of a frame's bytes, if they are refused.
+pub fn frame_refusal(bytes: &[u8], limit: usize, highest: u16) -> Option<u8> {
+    let Some(size) = size(bytes) else { return Some(1) };
+    let malformed = |body: &[u8]| !body.is_empty() && (performative(body).is_none() || is_read_there_only(body));
+    match () {
+        _ if size < 8 => Some(3),
+        _ if size > limit => Some(4),
+        _ if size > bytes.len() => Some(1),
+        _ if bytes[4..6] != [2, 0] => Some(5),
+        _ if channel(bytes) > highest => Some(7),
+        _ if malformed(&bytes[8..size]) => Some(6),
+        _ => None,
+    }
+}
+
+/// Whether a body is a session's, with nothing after it.
+pub fn is_sessions(body: &[u8]) -> bool {
+    match performative(body) {
+        None | Some((Performative::Open(_) | Performative::Close(_), _)) => false,
+        Some((Performative::Transfer(_), _)) => true,
+        Some((_, rest)) => rest.is_empty(),
+    }
+}
+
+/// The refusal of a session's frame that is to be sent, if it is refused.
+pub fn session_refusal(bytes: &[u8], highest: u16) -> Option<u8> {
+    let refused = frame_refusal(bytes, usize::MAX, u16::MAX);
+    if refused.is_some() {
+        return refused;
+    }
+    let body = &bytes[8..size(bytes)?];
+    match performative(body) {
+        _ if !is_sessions(body) => Some(6),
+        Some((Performative::Begin(begin), _)) => begin.remote_channel.filter(|remote| *remote > highest).map(|_| 7),
+        _ => None,
+    }
+}
+
+/// A frame as it is written: in its shortest form.
+pub fn rewritten(bytes: &[u8]) -> Vec<u8> {
+    let (read, rest) = performative(&bytes[8..]).expect("a frame that was judged");
+    let mut body = Vec::new();
+    read.serialize(&mut Serializer::from(&mut body)).expect("a body that was read");
+    body.extend(rest);
+    frame(channel(bytes), &body)
 }
 
 // ---- levels

@@ -1,12 +1,14 @@
 //! Differential runs of the Rust and the port.
 //!
-//! harness check              closure, lists 2, limits, random 2000 and loops 2, and which rules never occurred
+//! harness check              closure, lists 2, limits, random 4000 and loops 2; a rule that never occurred is a finding
 //! harness closure            every event of the alphabet in every reachable account of both roles
 //! harness lists LENGTH       every list of events up to LENGTH, from Start and from Opened, both roles
 //! harness random COUNT [SEED [LENGTH]]   COUNT random lists from SEED (1) on, of LENGTH (300) events each; COUNT 1 replays a seed
 //! harness limits             the limits after the Rust's own opening, beside the port's
 //! harness loops LENGTH       the Rust's functions one by one beside its own loop, on every list up to LENGTH from seven beginnings
 //! harness record             a sample of lists with their answers, as text
+//!
+//! With `--frames FILE` at the end, every header and frame that the port wrote is written to FILE, each once and without a Transfer's payload.
 //!
 //! The port is the archive where the harness is built with it, else the definition in plain Rust.
 
@@ -25,7 +27,7 @@ use std::collections::{BTreeMap, HashSet, VecDeque};
 use std::process::exit;
 
 use alphabet::alphabet;
-use compare::{Pair, Rule, RULES};
+use compare::{keep_written, kept_written, note_written, Pair, Rule, RULES};
 use events::{Event, Port};
 use fe2o3_amqp::auth::{Account, Oracle, Role, Settings};
 
@@ -58,6 +60,9 @@ const STATES: [&str; 14] = [
     "End",
 ];
 
+/// How many findings are shown.
+const SHOWN: u64 = 8;
+
 /// Totals of a run.
 #[derive(Default)]
 struct Tally {
@@ -76,7 +81,7 @@ impl Tally {
 
     fn found(&mut self, what: &str) {
         self.findings += 1;
-        if self.findings <= 8 {
+        if self.findings <= SHOWN {
             println!("FINDING {what}");
         }
     }
@@ -148,8 +153,9 @@ fn closure(tally: &mut Tally) {
         let mut open: VecDeque<(Vec<usize>, bool)> = VecDeque::from([(Vec::new(), true)]);
         let mut reached = [[0; 3]; STATES.len()];
         while let Some((list, every)) = open.pop_front() {
+            let first = replay(role, &letters, &list);
             for at in (0..letters.len()).filter(|at| every || taken(*at)) {
-                let mut pair = replay(role, &letters, &list);
+                let mut pair = first.again(list.iter().map(|at| &letters[*at].1));
                 tally.events += list.len() as u64;
                 if last_step(&mut pair, role, &letters, &list, at, tally) && seen.insert(format!("{:?}", key(&pair))) {
                     let (state, phase) = (pair.port.status().state as usize, pair.port.status().phase as usize);
@@ -170,8 +176,9 @@ fn closure(tally: &mut Tally) {
 
 /// Every list up to a length after a beginning. A list is not continued past the end of its engine.
 fn lists(role: Role, letters: &Letters, list: &mut Vec<usize>, left: usize, tally: &mut Tally) {
+    let first = replay(role, letters, list);
     for at in 0..letters.len() {
-        let mut pair = replay(role, letters, list);
+        let mut pair = first.again(list.iter().map(|at| &letters[*at].1));
         tally.events += list.len() as u64;
         let goes_on = last_step(&mut pair, role, letters, list, at, tally) && pair.port.status().phase != 2;
         if goes_on && left > 1 {
@@ -193,6 +200,7 @@ fn all_lists(length: usize, tally: &mut Tally) {
 
 fn random(count: &str, seed: &str, length: &str, tally: &mut Tally) {
     let (count, first): (u64, u64) = (count.parse().expect("a count"), seed.parse().expect("a seed"));
+    println!("random lists: seeds {first} to {}, up to {length} events each", first + count - 1);
     for seed in first..first + count {
         random::seed(seed, length.parse().expect("a length"), tally);
     }
@@ -210,7 +218,7 @@ fn limits(tally: &mut Tally) {
                 let header = b"AMQP\x00\x01\x00\x00".to_vec();
                 let incoming = Event::Incoming { frame: open, spare: 0, waiting: Vec::new() };
                 for event in [Event::SendHeader, Event::ReceiveHeader(header), Event::SendOpen, incoming] {
-                    port.event(&event);
+                    note_written(&port.event(&event).written);
                     tally.events += 1;
                 }
                 tally.lists += 1;
@@ -233,6 +241,9 @@ fn loops(length: usize, tally: &mut Tally) {
     loops::all_undelivered(tally);
 }
 
+/// How many random lists a check has.
+const RANDOM: &str = "4000";
+
 fn check(tally: &mut Tally) {
     let mut alone = Tally::default();
     loops(2, &mut alone);
@@ -240,11 +251,36 @@ fn check(tally: &mut Tally) {
     closure(tally);
     all_lists(2, tally);
     limits(tally);
-    random("2000", "1", "300", tally);
-    for (_, name, _) in RULES.into_iter().filter(|(rule, _, _)| !tally.rules.contains_key(rule)) {
-        println!("never occurred: {name}");
+    random(RANDOM, "1", "300", tally);
+    for (rule, name, _) in RULES {
+        if !tally.rules.contains_key(&rule) {
+            tally.found(&format!("a rule that never occurred: {name}"));
+        }
     }
     tally.findings += alone.findings;
+}
+
+/// Does what the arguments say; whether they say anything.
+fn run(arguments: &[&str], tally: &mut Tally) -> bool {
+    match arguments {
+        ["closure"] => closure(tally),
+        ["lists", length] => all_lists(length.parse().expect("a length"), tally),
+        ["random", count] => random(count, "1", "300", tally),
+        ["random", count, seed] => random(count, seed, "300", tally),
+        ["random", count, seed, length] => random(count, seed, length, tally),
+        ["limits"] => limits(tally),
+        ["loops", length] => loops(length.parse().expect("a length"), tally),
+        ["check"] => check(tally),
+        _ => return false,
+    }
+    true
+}
+
+/// Writes what the port wrote to a file, a header or frame on each line.
+fn write_frames(file: &str) {
+    let lines: Vec<String> = kept_written().iter().map(|frame| events::hex(frame) + "\n").collect();
+    std::fs::write(file, lines.concat()).expect("a file that can be written");
+    println!("{} headers and frames in {file}", lines.len());
 }
 
 fn main() {
@@ -256,27 +292,30 @@ fn main() {
         }
     }));
     let arguments: Vec<String> = std::env::args().skip(1).collect();
-    if arguments == ["record"] {
+    let mut words: Vec<&str> = arguments.iter().map(String::as_str).collect();
+    if words == ["record"] {
         return record::record();
     }
-    let mut tally = Tally::default();
-    if arguments.first().is_some_and(|first| first != "loops") {
+    let frames = match words[..] {
+        [.., "--frames", file] => Some(file),
+        _ => None,
+    };
+    if frames.is_some() {
+        words.truncate(words.len() - 2);
+        keep_written();
+    }
+    let loops_only = words.first() == Some(&"loops");
+    if !loops_only {
         println!("the Rust beside {SIDE}");
     }
-    match arguments.iter().map(String::as_str).collect::<Vec<_>>()[..] {
-        ["closure"] => closure(&mut tally),
-        ["lists", length] => all_lists(length.parse().expect("a length"), &mut tally),
-        ["random", count] => random(count, "1", "300", &mut tally),
-        ["random", count, seed] => random(count, seed, "300", &mut tally),
-        ["random", count, seed, length] => random(count, seed, length, &mut tally),
-        ["limits"] => limits(&mut tally),
-        ["loops", length] => loops(length.parse().expect("a length"), &mut tally),
-        ["check"] => check(&mut tally),
-        _ => {
-            eprintln!("usage: harness check | closure | lists LENGTH | random COUNT [SEED [LENGTH]] | limits | loops LENGTH | record");
-            exit(2);
-        }
+    let mut tally = Tally::default();
+    if !run(&words, &mut tally) {
+        eprintln!(
+            "usage: harness check | closure | lists LENGTH | random COUNT [SEED [LENGTH]] | limits | loops LENGTH | record [--frames FILE]"
+        );
+        exit(2);
     }
-    tally.report(arguments[0] != "loops");
+    tally.report(!loops_only);
+    frames.into_iter().for_each(write_frames);
     exit((tally.findings > 0) as i32);
 }

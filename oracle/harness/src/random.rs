@@ -2,24 +2,28 @@
 
 use crate::compare::Pair;
 use crate::events::*;
-use crate::{Side, Tally};
+use crate::{Side, Tally, SHOWN};
 use fe2o3_amqp::auth::{Account, Phase, Role, Settings};
 
 /// xorshift64*: small, and the same everywhere.
-pub struct Dice(u64);
+pub struct Dice {
+    state: u64,
+    /// Whether a frame to be sent was damaged.
+    damaged: bool,
+}
 
 impl Dice {
     pub fn new(seed: u64) -> Self {
-        let mut dice = Dice(seed.wrapping_mul(0x9e37_79b9_7f4a_7c15) | 1);
+        let mut dice = Dice { state: seed.wrapping_mul(0x9e37_79b9_7f4a_7c15) | 1, damaged: false };
         dice.roll();
         dice
     }
 
     fn roll(&mut self) -> u64 {
-        self.0 ^= self.0 >> 12;
-        self.0 ^= self.0 << 25;
-        self.0 ^= self.0 >> 27;
-        self.0.wrapping_mul(0x2545_f491_4f6c_dd1d) >> 16
+        self.state ^= self.state >> 12;
+        self.state ^= self.state << 25;
+        self.state ^= self.state >> 27;
+        self.state.wrapping_mul(0x2545_f491_4f6c_dd1d) >> 16
     }
 
     pub fn below(&mut self, bound: u64) -> u64 {
@@ -95,10 +99,23 @@ impl Place<'_> {
             4 | 5 => end(channel),
             6 if dice.one_in(20) => {
                 let limit = self.account.writing_limit;
-                // Twenty bytes stand before a payload: a frame at the limit, and those beside it.
-                transfer(channel, dice.pick(&[limit - 22, limit - 21, limit - 20, limit - 19, limit - 18]))
+                // Twenty bytes stand before a payload: a frame at the limit, those beside it, and two that need several frames.
+                transfer(channel, dice.pick(&[limit - 22, limit - 21, limit - 20, limit - 19, limit - 18, 2 * limit, 5 * limit]))
             }
+            7 if dice.one_in(30) => long(channel, dice.pick(&[17, 18, 20]), self.account.writing_limit, dice.below(5) as usize),
+            8 if dice.one_in(10) => deep(channel, dice.pick(&[13, 14, 14, 14, 15])),
             _ => transfer(channel, dice.below(40) as usize),
+        }
+    }
+
+    /// A session's frame to be sent, now and then one that cannot be.
+    fn to_send(&self, dice: &mut Dice) -> Vec<u8> {
+        let frame = self.outgoing(dice);
+        if dice.one_in(40) {
+            dice.damaged = true;
+            damaged(dice, frame)
+        } else {
+            frame
         }
     }
 
@@ -111,20 +128,84 @@ impl Place<'_> {
         self.between(dice, channel)
     }
 
+    /// Frames that wait, one in six of them beside the limit or over it.
     fn waiting(&self, dice: &mut Dice) -> Vec<u8> {
         let mut frames = Vec::new();
         while dice.one_in(2) {
-            frames.extend(self.outgoing(dice));
+            let channel = self.channel(dice, &self.account.taken);
+            frames.extend(match dice.one_in(6) {
+                true => long(channel, dice.pick(&[17, 18, 20]), self.account.writing_limit, dice.below(5) as usize),
+                false => self.to_send(dice),
+            });
         }
         frames
     }
 }
 
-/// A good frame with a byte altered, a piece cut off, or bytes after it.
+/// A map with one entry.
+fn properties(value: &[u8]) -> Vec<u8> {
+    [&[0xd1][..], &(value.len() as u32 + 7).to_be_bytes(), &[0, 0, 0, 2], b"\xa3\x01p", value].concat()
+}
+
+/// An Attach with lists in lists in its properties: the innermost value is so many levels below level 2.
+fn deep(channel: u16, levels: usize) -> Vec<u8> {
+    let nested = (0..levels).fold(vec![0x43], |inside, _| [&[0xc0, inside.len() as u8 + 1, 1][..], &inside].concat());
+    let properties = properties(&nested);
+    let mut fields: Vec<&[u8]> = vec![b"\xa1\x01n", b"\x43", b"\x42"];
+    fields.resize(13, b"\x40");
+    fields.push(&properties);
+    frame(channel, &body(18, &fields))
+}
+
+/// A Begin, an Attach or a Transfer without payload that is long by its properties, name or tag: at the limit, beside it, or twice as long.
+fn long(channel: u16, code: u8, limit: usize, choice: usize) -> Vec<u8> {
+    let of = |length: usize| {
+        let kind = if code == 18 { 0xb1 } else { 0xb0 };
+        let text = [&[kind][..], &(length as u32).to_be_bytes(), &vec![b'n'; length]].concat();
+        let most = b"\x70\x00\x00\x01\x00";
+        frame(
+            channel,
+            &match code {
+                17 => body(17, &[b"\x60\x00\x00", b"\x43", b"\x43", b"\x43", most, b"\x40", b"\x40", &properties(&text)]),
+                18 => body(18, &[&text, b"\x43", b"\x42"]),
+                _ => body(20, &[b"\x43", b"\x43", &text]),
+            },
+        )
+    };
+    let rest = of(300).len() - 300;
+    of([limit - rest - 1, limit - rest, limit - rest + 1, limit - rest + 2, 2 * limit][choice])
+}
+
+/// The same frame with the name of its performative for a descriptor, or with that of its error.
+fn symbolic(frame: &[u8]) -> Vec<u8> {
+    const NAMES: [&str; 9] = ["open", "begin", "attach", "flow", "transfer", "disposition", "detach", "end", "close"];
+    let at = frame.get(10).map_or(0, |code| code.wrapping_sub(16) as usize).min(8);
+    let name = format!("amqp:{}:list", NAMES[at]);
+    let error = [&b"\x00\xa3\x0famqp:error:list"[..], b"\xc0\x04\x01\xa3\x01x"].concat();
+    match at {
+        7 | 8 if frame.len() > 12 => crate::events::frame(0, &body(16 + at as u8, &[&error])),
+        _ => {
+            let descriptor = [&[0, 0xa3, name.len() as u8][..], name.as_bytes()].concat();
+            crate::events::frame(channel(frame), &[&descriptor, frame.get(11..).unwrap_or(b"\x45")].concat())
+        }
+    }
+}
+
+/// A good frame with a byte altered, a piece cut off, bytes after it or at the end of its body, a symbol for a descriptor, or a length of 0 to 8.
 fn damaged(dice: &mut Dice, mut frame: Vec<u8>) -> Vec<u8> {
-    match dice.below(4) {
-        0 => frame.truncate(dice.below(frame.len() as u64) as usize),
-        1 => frame.extend([0, 0, 0]),
+    match dice.below(8) {
+        0 | 1 => frame.truncate(dice.below(frame.len() as u64) as usize),
+        2 => frame.extend([0, 0, 0]),
+        3 => {
+            frame.push(0x40);
+            let size = frame.len() as u32;
+            frame[..4].copy_from_slice(&size.to_be_bytes());
+        }
+        4 if dice.one_in(3) => frame = symbolic(&frame),
+        5 if dice.one_in(3) => {
+            frame[..4].copy_from_slice(&(dice.below(9) as u32).to_be_bytes());
+            frame.truncate(4 + dice.below(5) as usize);
+        }
         _ => {
             // Lengths 4 to 7 and channels far above are rules that end a list: the body is damaged more often.
             let from = if frame.len() > 8 && !dice.one_in(8) { 8 } else { 0 };
@@ -135,12 +216,21 @@ fn damaged(dice: &mut Dice, mut frame: Vec<u8>) -> Vec<u8> {
     frame
 }
 
+fn any_open(dice: &mut Dice) -> Vec<u8> {
+    let size = dice.pick(&[0, 511, 512, 513, 4096, 16384, 16385, 65536, u32::MAX]);
+    open(size, dice.pick(&[0, 1, 7, 255, 65535]), dice.pick(&[None, None, None, Some(0), Some(9)]))
+}
+
 fn incoming(dice: &mut Dice, place: &Place) -> Vec<u8> {
     let frame = match dice.below(1000) {
         0..=1 => close(None),
         2 => close(Some(&error("amqp:internal-error", None))),
-        3..=4 => open(dice.pick(&[0, 512, 513, 4096, 16384, 16385]), dice.pick(&[0, 1, 7, 255, 65535]), dice.pick(&[None, Some(9)])),
-        5..=60 => frame(0, &[]),
+        3..=4 => any_open(dice),
+        5 => {
+            let channel = place.channel(dice, &place.account.ties);
+            transfer(channel, place.account.reading_limit - dice.pick(&[18, 19, 20, 21]))
+        }
+        6..=60 => frame(0, &[]),
         61..=400 => place.begin(dice),
         _ if place.account.ties.is_empty() && !dice.one_in(100) => place.begin(dice),
         _ => {
@@ -160,36 +250,57 @@ fn event(dice: &mut Dice, place: &Place) -> Event {
     let waits = place.account.phase == Phase::Awaiting && !dice.one_in(20);
     match if waits { 0 } else { dice.below(1000) } {
         0..=499 => {
-            let waiting = if dice.one_in(10) { place.waiting(dice) } else { Vec::new() };
-            Event::Incoming { frame: incoming(dice, place), spare: handle, waiting }
+            let frame = incoming(dice, place);
+            let closes = frame.get(10) == Some(&24);
+            let waiting = if closes || dice.one_in(10) { place.waiting(dice) } else { Vec::new() };
+            Event::Incoming { frame, spare: handle, waiting }
         }
         500..=659 => Event::Allocate(handle),
         660..=779 if !place.account.taken.is_empty() || dice.one_in(20) => Event::Deallocate(place.channel(dice, &place.account.taken)),
-        780..=959 => Event::Outgoing(place.outgoing(dice)),
+        780..=959 => Event::Outgoing(place.to_send(dice)),
         991 => Event::Close { waiting: place.waiting(dice) },
         992 => Event::CloseWithError {
-            condition: b"amqp:connection:forced".to_vec(),
-            description: dice.one_in(2).then(|| vec![b'd'; dice.pick(&[0, 200, 255])]),
+            // With both, 36 bytes stand beside the texts: 476 make a frame of 512.
+            condition: vec![b'c'; dice.pick(&[0, 22, 255])],
+            description: dice.one_in(2).then(|| vec![b'd'; dice.pick(&[0, 200, 220, 221, 222, 223, 255])]),
             waiting: place.waiting(dice),
         },
         993 => Event::EndOfInput,
         994 => Event::NotDelivered { new_session: dice.one_in(2) },
         995 => Event::SendOpen,
-        996 => Event::ReceiveHeader(b"AMQP\x00\x01\x00\x00".to_vec()),
+        996 => Event::ReceiveHeader(any_header(dice)),
         997 => Event::SendHeader,
         _ => Event::Tick,
     }
 }
 
+/// A header: that of AMQP, of other protocols, malformed, short, or with bytes after it.
+fn any_header(dice: &mut Dice) -> Vec<u8> {
+    let headers: [&[u8]; 8] = [
+        b"AMQP\x00\x01\x00\x00",
+        b"AMQP\x03\x01\x00\x00",
+        b"AMQP\x02\x01\x00\x01",
+        b"AMQP\x01\x01\x00\x00",
+        b"AMQQ\x00\x01\x00\x00",
+        b"AMQP\x00\x01\x00",
+        b"",
+        b"AMQP\x00\x01\x00\x00AMQP",
+    ];
+    dice.pick(&headers).to_vec()
+}
+
 /// A beginning: mostly an opening, in one order or the other.
 fn beginning(dice: &mut Dice) -> Vec<Event> {
     let header = Event::ReceiveHeader(b"AMQP\x00\x01\x00\x00".to_vec());
-    let frame = open(dice.pick(&[512, 513, 4096, 16384, 65536]), dice.pick(&[0, 1, 7, 255, 65535]), None);
-    let open = Event::Incoming { frame, spare: 0, waiting: Vec::new() };
-    match dice.below(16) {
+    let open = Event::Incoming { frame: any_open(dice), spare: 0, waiting: Vec::new() };
+    match dice.below(24) {
         0 => Vec::new(),
         1 => vec![Event::SendHeader, Event::SendOpen],
-        2..=8 => vec![Event::SendHeader, header, Event::SendOpen, open],
+        2 => vec![Event::SendHeader, header, Event::SendOpen],
+        3 => vec![Event::SendHeader, header, Event::SendOpen, Event::Close { waiting: Vec::new() }],
+        4 => vec![header, Event::SendHeader, open],
+        5 => vec![Event::ReceiveHeader(any_header(dice))],
+        6..=14 => vec![Event::SendHeader, header, Event::SendOpen, open],
         _ => vec![header, Event::SendHeader, open, Event::SendOpen],
     }
 }
@@ -214,9 +325,12 @@ fn live(seed: u64, length: usize, tally: &mut Tally) -> (Role, Settings, Vec<Eve
     let (role, settings, mut events) = setting(&mut dice);
     let mut pair = Pair::new(role, &settings, Side::new(role, &settings));
     for at in 0..length {
+        dice.damaged = false;
         if at == events.len() {
             events.push(place_event(&mut dice, role, &settings, &pair));
         }
+        // A damaged frame that still goes out has fields that no session would write.
+        pair.keeps_written = !dice.damaged;
         match pair.step(&events[at]) {
             Err(_) => return (role, settings, events, true),
             Ok(step) => {
@@ -265,12 +379,15 @@ fn shrink(role: Role, settings: &Settings, mut events: Vec<Event>) -> (Vec<Event
     (events, what)
 }
 
-/// One seed's list; its finding is shrunk.
+/// One seed's list; its finding is shrunk, as long as findings are shown.
 pub fn seed(seed: u64, length: usize, tally: &mut Tally) {
     tally.lists += 1;
     let (role, settings, events, found) = live(seed, length, tally);
     if !found {
         return;
+    }
+    if tally.findings >= SHOWN {
+        return tally.found("");
     }
     let (events, what) = shrink(role, &settings, events);
     let lines: Vec<String> = events.iter().map(|event| format!("    {event}")).collect();

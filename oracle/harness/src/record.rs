@@ -132,5 +132,5 @@ pub fn record() {
         step(&mut over, &letters[named(&letters, name)].1);
     }
     (1..=250).for_each(|seed| walk(seed, &letters));
-    (1..=50).for_each(long);
+    (1..=80).for_each(long);
 }
