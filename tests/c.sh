@@ -1,6 +1,6 @@
 #!/usr/bin/env bash
-# Tests of the C side: the header as C and as C++, its example, the tests through C (under valgrind too), and the example hub against its stored output.
-# Usage: tests/c.sh [ARCHIVE]; without ARCHIVE the library is built by rt. Installs gcc, g++ and valgrind where they are missing.
+# Tests of the C side: the headers as C and as C++, the example, the tests through C (under valgrind too), the frame reader, and the example hub against its stored output.
+# Usage: tests/c.sh [ARCHIVE]; without ARCHIVE the library is built by rt, with the kit that keeps the module of it for tests/fuzz.sh. Installs gcc, g++ and valgrind where they are missing.
 # The last line is 'c.sh: N parts passed', and the exit status 0, where nothing was wrong.
 set -euo pipefail
 archive="$(realpath "${1:-/dev/null}")"
@@ -12,8 +12,10 @@ work=target/c
 mkdir -p "$work"
 if [ $# -eq 0 ]; then
     archive=target/staticlib/libhisproat.a
-    rt staticlib hisproat > "$work/staticlib.log" 2>&1 || { cat "$work/staticlib.log" >&2; exit 1; }
+    RATTLE_HOME="$(bash tests/fuzz.sh kit)" rt staticlib hisproat > "$work/staticlib.log" 2>&1 || { cat "$work/staticlib.log" >&2; exit 1; }
 fi
+reader=target/staticlib/libframe_reader.a
+rt staticlib frame_reader > "$work/reader.log" 2>&1 || { cat "$work/reader.log" >&2; exit 1; }
 warnings=(-Wall -Wextra -Werror -pedantic -Iinclude)
 parts=0
 
@@ -22,11 +24,13 @@ passed() { # NAME
     parts=$((parts + 1))
 }
 
-# the header alone, and twice
-printf '#include "hisproat.h"\n#include "hisproat.h"\n' > "$work/alone.c"
-gcc -std=c11 "${warnings[@]}" -c "$work/alone.c" -o "$work/alone.o"
-g++ -std=c++11 "${warnings[@]}" -x c++ -c "$work/alone.c" -o "$work/alone.o"
-passed "the header is C11 and C++11"
+# each header alone, and twice
+for header in hisproat hisproat_frame_reader; do
+    printf '#include "%s.h"\n#include "%s.h"\n' "$header" "$header" > "$work/alone.c"
+    gcc -std=c11 "${warnings[@]}" -c "$work/alone.c" -o "$work/alone.o"
+    g++ -std=c++11 "${warnings[@]}" -x c++ -c "$work/alone.c" -o "$work/alone.o"
+done
+passed "the headers are C11 and C++11"
 
 # the example in the header's first comment
 sed -n '/^ \* EXAMPLE/,/^ \* End of the example/s/^ \*     //p' include/hisproat.h > "$work/example.c"
@@ -45,6 +49,10 @@ passed "the library through C"
 
 valgrind --error-exitcode=1 -q "$work/crossing" | tail -n 1
 passed "the same under valgrind"
+
+gcc -std=c11 -O2 "${warnings[@]}" tests/c/frame_reader.c "$reader" "$archive" -o "$work/frame_reader"
+"$work/frame_reader"
+passed "the frame reader, beside the engine"
 
 "$work/hub" examples/pads.amqp | diff - examples/hub.out
 valgrind --error-exitcode=1 -q "$work/hub" examples/pads.amqp | diff - examples/hub.out
