@@ -3,7 +3,6 @@ pub mod Numbers
 pub mod Counting
 pub mod Steps
 pub mod Laws
-pub mod Marking
 pub mod Sharing
 pub mod Parts
 pub mod Writing

@@ -133,11 +133,10 @@ module _ (s : List ℕ) (r : Free) (bad : (r .fine ≡ false) × (r .left ≡ 0)
   pub free-many : (n : ℕ) → n ≡ bigEndian (take 8 (take 2 s)) → 256 < n → ReadsFree s r
   free-many n q h = free-no s r (bad .0) (bad .1) (λ l few once e. omega (arith, list-count s l e few))
 
-  pub free-rest : (n : ℕ) → n ≡ bigEndian (take 8 (take 2 s)) → n ≤ 256 → (b : Bool) → TellsZeros (take (258 - (2 + n)) (drop (2 + n) s)) b → b ≡ false → ReadsFree s r
+  pub free-rest : (n : ℕ) → n ≡ bigEndian (take 8 (take 2 s)) → n ≤ 256 → (b : Bool) → TellsZeros (drop (2 + n) s) b → b ≡ false → ReadsFree s r
   free-rest n q h b t f = free-no s r (bad .0) (bad .1) (λ l few once e.
       let m : n ≡ length l = q ∙ list-count s l e few in
-      let z : take (258 - (2 + n)) (drop (2 + n) s) ≡ zeros (256 - n) =
-      ap (take (258 - (2 + n))) (list-zeros s l e n m) ∙ take-all (258 - (2 + n)) (zeros (256 - n)) (omega (arith, length-zeros (256 - n))) in
+      let z : drop (2 + n) s ≡ zeros (256 - n) = list-zeros s l e n m in
       t .no f (z ∙ ap zeros (sym (ap length z ∙ length-zeros (256 - n)))))
 
 pub octets-take : (n : ℕ) (s : List ℕ) → Octets s → Octets (take n s)
@@ -159,17 +158,14 @@ module _ (s : List ℕ) (size : length s ≡ 258) (octets : Octets s) (n : ℕ) 
   body-long : length (take (2 + n - 2) (drop 2 s)) ≡ n
   body-long = ap length body-is ∙ length-take-le n (drop 2 s) (omega (arith, length-drop 2 s))
 
-  rest-are : TellsZeros (take (258 - (2 + n)) (drop (2 + n) s)) true → drop (2 + n) s ≡ zeros (256 - n)
-  rest-are t =
-      let l : length (drop (2 + n) s) ≡ 256 - n = omega (arith, length-drop (2 + n) s) in
-      let a : take (258 - (2 + n)) (drop (2 + n) s) ≡ drop (2 + n) s = take-all (258 - (2 + n)) (drop (2 + n) s) (omega arith) in
-      sym a ∙ t .yes refl ∙ ap zeros (ap length a ∙ l)
+  rest-are : TellsZeros (drop (2 + n) s) true → drop (2 + n) s ≡ zeros (256 - n)
+  rest-are t = let l : length (drop (2 + n) s) ≡ 256 - n = omega (arith, length-drop (2 + n) s) in t .yes refl ∙ ap zeros l
 
   chain-is : (r : Linked) → Links (take (2 + n - 2) (drop 2 s)) r → r .fine ≡ true → chain (r .links) (r .head) n ≡ take (2 + n - 2) (drop 2 s)
   chain-is r is f = ap (chain (r .links) (r .head)) (sym body-long) ∙ is .yes f
 
   pub free-read :
-      (b : Bool) → TellsZeros (take (258 - (2 + n)) (drop (2 + n) s)) b → b ≡ true → (r : Linked) → Links (take (2 + n - 2) (drop 2 s)) r
+      (b : Bool) → TellsZeros (drop (2 + n) s) b → b ≡ true → (r : Linked) → Links (take (2 + n - 2) (drop 2 s)) r
       → ReadsFree s (record { fine = r .fine; links = r .links; marked = r .marked; head = r .head; left = n })
   free-read b t q r is = record {
     yes = λ f.

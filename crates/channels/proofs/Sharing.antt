@@ -1,8 +1,9 @@
 -- What each step of the functions that test the rule of the numbers on marks shows, with the facts as they come.
 -- Assumes nothing.
 use mathlib.Core.Path.{_≡_, refl, sym, _∙_, ap}
-use mathlib.Core.Bool.{Bool, true, false, Bool·beq}
+use mathlib.Core.Bool.{Bool, true, false, cond, Bool·beq}
 use mathlib.Core.List.{List}
+use mathlib.Core.Option.{none, some}
 use Prim.Native.Nat.{ℕ, suc, _+_, _≤_, _<_}
 use native.Mathlib.Numerals.{add-one}
 use native.Mathlib.Omega.{arith}
@@ -10,9 +11,19 @@ use lib.Dec.{ltb}
 use lib.ListN.{getD}
 use borrow.Author.Count.{below-more, below-none}
 use borrow.Author.Tests.{lt-ltb, le-ltb}
-use Rattle.channels.specs.Numbers.{one}
+use Rattle.channels.specs.Numbers.{one, isTaken}
+use Rattle.channels.specs.declared.Handles.{Handles}
+use Rattle.channels.specs.Channels.{handlesSay}
 use Rattle.channels.specs.Bytes.{allNumbers, CountsAll, AreShared, TellsShared}
 use Rattle.channels.proofs.Steps.{apart}
+
+pub marked-if-held : (t : Handles) (j : ℕ) → isTaken (handlesSay t j) ≡ one (getD (t .held) j false)
+unfolding handlesSay
+marked-if-held t j = at (getD (t .held) j false)
+  where
+    at : (b : Bool) → isTaken (cond b (some (getD (t .handles) j 0)) none) ≡ one b
+    at true = refl
+    at false = refl
 
 -- ---- all_numbers
 

@@ -28,8 +28,8 @@ use Rattle.layout.proofs.Laws.{bytes-number, length-may, mark-may, same-may, he
 use Rattle.channels.specs.Bytes.{numbers, handlesBytes, channelsBytes, ReadsHandles, listBytes, freeOf, MarksFree, ReadsFree, allNumbers, CountsAll, AreShared, Rebuilds, UnreadChannels, ReadsChannels}
 use Rattle.channels.proofs.Numbers.{one-small}
 use Rattle.channels.proofs.Counting.{free-and-taken}
+use Rattle.channels.proofs.Sharing.{marked-if-held}
 use Rattle.channels.proofs.Steps.{apart, got-past, chain-none, chain-pop, chain-length, table}
-use Rattle.channels.proofs.Marking.{marked-if-held}
 use Rattle.channels.proofs.Parts.{length-handles}
 use Rattle.channels.proofs.Reading.{same-marked, place-at}
 use Rattle.channels.proofs.Lists.{length-list, same-list}

@@ -10,7 +10,7 @@ use mathlib.Core.Path.{_≡_}
 use mathlib.Core.Bool.{Bool, true, false, cond}
 use mathlib.Core.List.{List, [], _∷_, _++_}
 use mathlib.Core.Option.{Option, none, some}
-use Prim.Native.Nat.{ℕ, zero, suc, _+_, _≤_, _<_}
+use Prim.Native.Nat.{ℕ, zero, suc, _+_, _*_, _≤_, _<_}
 use lib.Dec.{leb, ltb}
 use lib.ListN.{length, getD}
 use Rattle.octets.specs.Octets.{bytesOf, put}
@@ -52,6 +52,12 @@ unfoldable pub tableBytes : OutgoingChannels → List ℕ
 tableBytes t = may 1 (agreedSays t) ++ (bytesOf 2 (freeCount t) ++ (filled 256 (freeNumbers t) ++ handlesBytes (takenSays t)))
 
 -- ---- what the calls promise
+
+-- a place from the k-th on, at most 32 further, that only zeros come before
+pub record PassesEmpty (s : List ℕ) (k r : ℕ) : Type 0 where
+  pub from : k ≤ r
+  pub to : r ≤ k + 32
+  pub empty : (i : ℕ) → 5 * k ≤ i → i < 5 * r → getD s i 0 ≡ 0
 
 pub record ReadsHandles (s : List ℕ) (r : HandlesRead) : Type 0 where
   pub yes : r .fine ≡ true → s ≡ handlesBytes (handlesSay (r .handles))

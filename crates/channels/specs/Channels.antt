@@ -1,15 +1,13 @@
 -- The channel tables: what their values stand for in the definition of a connection, and what each call promises.
 -- Assumes nothing: these are definitions.
 use mathlib.Core.Path.{_≡_}
-use mathlib.Core.Bool.{Bool, true, false, cond}
+use mathlib.Core.Bool.{false, cond}
 use mathlib.Core.List.{List, [], _∷_}
 use mathlib.Core.Option.{Option, none, some}
-use Prim.Native.Nat.{ℕ, zero, suc, _+_, _<_}
-use lib.Dec.{ltb}
+use Prim.Native.Nat.{ℕ, zero, suc, _<_}
 use lib.ListN.{length, getD}
 use Rattle.octets.specs.Verdict.{Verdict, refuse, accept}
-use Rattle.channels.specs.Numbers.{Map, nowhere, with, upFrom, freedFirst}
-use Rattle.channels.specs.Numbers.{one, isTaken, count, EachOnce, Shared, takenBelow}
+use Rattle.channels.specs.Numbers.{Map, nowhere, with, upFrom, freedFirst, Shared, takenBelow}
 use Rattle.channels.specs.declared.Handles.{Handles}
 use Rattle.channels.specs.declared.Held.{Held}
 use Rattle.channels.specs.declared.Held.the-variants.{Handle, Nothing}
@@ -18,7 +16,6 @@ use Rattle.channels.specs.declared.Allocated.{Allocated}
 use Rattle.channels.specs.declared.Allocated.the-variants.{Channel, NotOpened, Full}
 use Rattle.channels.specs.declared.Allocation.{Allocation}
 use Rattle.channels.specs.declared.Deallocation.{Deallocation}
-use Rattle.channels.specs.declared.Marks.{Marks}
 use Rattle.channels.specs.declared.AgreedMax.{AgreedMax}
 use Rattle.channels.specs.declared.AgreedMax.the-variants.{Absent, Is}
 
@@ -99,21 +96,3 @@ pub record Frees (self : OutgoingChannels) (channel : ℕ) (r : Deallocation) : 
 
 pub record Counts (self : OutgoingChannels) (r : ℕ) : Type 0 where
   pub counts : SharedBy self → r ≡ takenBelow 256 (takenSays self)
-
--- of 256 numbers those below n are marked, and no others
-abbrev pub AreFirst : List Bool → ℕ → Type 0
-AreFirst marked n = (k : ℕ) → k < 256 → getD marked k false ≡ ltb k n
-
-pub record TellsFirst (marked : List Bool) (n : ℕ) (r : Bool) : Type 0 where
-  pub yes : r ≡ true → AreFirst marked n
-  pub no : r ≡ false → AreFirst marked n → ⊥
-
--- the numbers that are free or taken are marked; or one of them is free and taken, or free twice, and then no limit makes the table right
-pub record Marked (self : OutgoingChannels) (r : Marks) : Type 0 where
-  pub marks : r .once ≡ true → (k : ℕ) → count k (chain (self .links) (self .head) (self .left)) + isTaken (takenSays self k) ≡ one (getD (r .marked) k false)
-  pub twice : r .once ≡ false → (m : ℕ) → EachOnce m (chain (self .links) (self .head) (self .left)) (takenSays self) → ⊥
-
--- yes is said of a table that keeps the rule of the numbers, and no of one that does not
-pub record Decides (self : OutgoingChannels) (r : Bool) : Type 0 where
-  pub yes : r ≡ true → SharedBy self
-  pub no : r ≡ false → SharedBy self → ⊥

@@ -2,14 +2,14 @@
 ghost use mathlib.Core.Path.{_≡_};
 ghost use mathlib.Core.Bool.{false};
 ghost use mathlib.Core.Option.{none, some};
-ghost use Prim.Native.Nat.{_≤_, _<_};
+ghost use Prim.Native.Nat.{_+_, _*_, _≤_, _<_};
+ghost use lib.ListN.{length};
 ghost use Rattle.channels.specs.Numbers.{nowhere, with};
 ghost use Rattle.channels.specs.Channels.{handlesSay, heldSays, takenSays, agreedSays, agreedMaxSays, Ascends, Fresh, Opens, Allocates, Frees, Counts};
-ghost use Rattle.channels.specs.Channels.{TellsFirst, Marked, Decides};
 ghost use Rattle.octets.specs.Octets.{put};
 ghost use Rattle.layout.specs.Layout.{filled};
 ghost use Rattle.channels.specs.Bytes.{handlesBytes, freeNumbers};
-ghost use Rattle.channels.specs.Bytes.{ReadsHandles, TellsBelow, Unread, CountsFree, WritesChannels};
+ghost use Rattle.channels.specs.Bytes.{PassesEmpty, ReadsHandles, TellsBelow, Unread, CountsFree, WritesChannels};
 ghost use Rattle.channels.specs.Bytes.{Links, MarksFree, ReadsFree, CountsAll, TellsShared, Rebuilds, UnreadChannels, ReadsChannels};
 use layout::are_zero;
 use layout::put_may;
@@ -126,17 +126,19 @@ impl Handles {
         }
         let mut k: usize = 0;
         while k < 256 {
-            let at = 5 * k;
-            let end = at + 5;
-            let place = read_may(&s[at..end]);
-            if !place.fine {
-                return unread();
-            }
-            if place.there {
-                held[k] = true;
+            let end = k + 32;
+            k = past_empty(s, k);
+            while k < end {
+                let at = 5 * k;
+                let past = at + 5;
+                let place = read_may(&s[at..past]);
+                if !place.fine {
+                    return unread();
+                }
+                held[k] = place.there;
                 handles[k] = place.number as u32;
+                k += 1;
             }
-            k += 1;
         }
         HandlesRead {
             fine: true,
@@ -154,6 +156,19 @@ fn unread() -> HandlesRead
         fine: false,
         handles,
     }
+}
+
+// The k-th of the places of handles, or the one 32 further on where all between have none: most places have none, and zeros are read fast.
+fn past_empty(s: &[u8], k: usize) -> usize
+    requires { ⌜ 5 * k + 160 ≤ length (now s) ⌝ }
+    ensures { λ r. ⌜ PassesEmpty (now (s .entry)) k r ⌝ }
+{
+    let at = 5 * k;
+    let end = at + 160;
+    if are_zero(&s[at..end], 0) {
+        return k + 32;
+    }
+    k
 }
 
 fn wide(x: u32) -> u64
@@ -196,12 +211,6 @@ pub struct Deallocation {
 pub enum AgreedMax {
     Absent,
     Is(u8),
-}
-
-// The numbers that are free or taken. Where `once` is false, one of them is both, or free twice, and the marks say nothing.
-struct Marks {
-    marked: [bool; 256],
-    once: bool,
 }
 
 // A table that was read from bytes. Where `fine` is false, they are not those of a table that keeps the rule, and the table is a new one.
@@ -306,7 +315,7 @@ fn read_free(s: &[u8]) -> Free
         return no_list();
     }
     let end = 2 + (n as usize);
-    if !are_zero(&s[end..258]) {
+    if !are_zero(s, end) {
         return no_list();
     }
     let linked = link(&s[2..end]);
@@ -392,28 +401,6 @@ fn rebuilt(opened: bool, highest: u8, free: Free, sessions: Handles) -> Channels
         fine: true,
         channels,
     }
-}
-
-// Whether the numbers below n are marked, and no others.
-fn are_first(marked: [bool; 256], n: u16) -> bool
-    ensures { λ r. ⌜ TellsFirst marked n r ⌝ }
-{
-    let mut k: u16 = 0;
-    while k < 256 {
-        let i = k as usize;
-        let mark = marked[i];
-        if k < n {
-            if !mark {
-                return false;
-            }
-        } else {
-            if mark {
-                return false;
-            }
-        }
-        k += 1;
-    }
-    true
 }
 
 impl OutgoingChannels {
@@ -540,48 +527,6 @@ impl OutgoingChannels {
             return 0;
         }
         all - left
-    }
-
-    // Marks the free numbers beside the taken ones, and stops at one that is marked already: it marks at most 256.
-    fn marks(self) -> Marks
-        ensures { λ r. ⌜ Marked self r ⌝ }
-    {
-        let sessions = self.sessions;
-        let links = self.links;
-        let mut marked = sessions.held;
-        let mut i = index(self.head);
-        let mut left = self.left;
-        while 0 < left {
-            if marked[i] {
-                return Marks {
-                    marked,
-                    once: false,
-                };
-            }
-            marked[i] = true;
-            i = index(links[i]);
-            left -= 1;
-        }
-        Marks { marked, once: true }
-    }
-
-    // Whether the free numbers and the taken ones are together 0 to the agreed channel-max, each once,
-    // or none before the peer's Open. A table whose bytes come from elsewhere may be any.
-    pub fn is_shared(self) -> bool
-        ensures { λ r. ⌜ Decides self r ⌝ }
-    {
-        if !self.opened {
-            let sessions = self.sessions;
-            let held = sessions.held;
-            return are_first(held, 0);
-        }
-        let marks = self.marks();
-        if !marks.once {
-            return false;
-        }
-        let marked = marks.marked;
-        let n = (self.highest as u16) + 1;
-        are_first(marked, n)
     }
 
     // How many numbers are free, before the peer's Open none, and at most 256.

@@ -9,7 +9,7 @@ use native.Mathlib.Nat.{div-one, div-div-eq-div-mul, div-add-mod', div-eq-of-lt,
 use native.Mathlib.Omega.{arith}
 use lib.Dec.{eqb}
 use lib.ListN.{length, take, drop, getD, length-append, length-take, length-drop}
-use lib.Seq.{take-all, take-length, ext-getD}
+use lib.Seq.{take-all, take-length, getD-drop, ext-getD}
 use lib.Pow.{pow-mono, pow-pos}
 use Rattle.octets.specs.Octets.{bigEndianFrom, bigEndian, bytesOf, put}
 use Rattle.octets.proofs.Laws.{length-bytesOf, put-over, put-more}
@@ -200,36 +200,39 @@ zero-at zero i = refl
 zero-at (suc n) zero = refl
 zero-at (suc n) (suc i) = zero-at n i
 
-zeros-at : (s : List ℕ) (i : ℕ) → s ≡ zeros (length s) → getD s i 0 ≡ 0
+pub zeros-at : (s : List ℕ) (i : ℕ) → s ≡ zeros (length s) → getD s i 0 ≡ 0
 zeros-at s i e = ap (λ l. getD l i 0) e ∙ zero-at (length s) i
 
--- of the first i bytes none is greater than `greatest`, which is zero where they all are
-abbrev pub Greatest : List ℕ → ℕ → ℕ → Type 0
-Greatest s greatest i = (i ≤ length s) × ((j : ℕ) → j < i → getD s j 0 ≤ greatest) × (s ≡ zeros (length s) → greatest ≡ 0)
+-- of the bytes from a place to i none is greater than `greatest`, which is zero where all from that place on are
+abbrev pub Greatest : List ℕ → ℕ → ℕ → ℕ → Type 0
+Greatest s from greatest i = (from ≤ i) × ((j : ℕ) → j < i → from ≤ j → getD s j 0 ≤ greatest) × (drop from s ≡ zeros (length (drop from s)) → greatest ≡ 0)
 
-module _ (s : List ℕ) where
-  pub greatest-none : Greatest s 0 0
-  greatest-none = (omega arith, λ j l. absurd (omega arith), λ e. refl)
+module _ (s : List ℕ) (from : ℕ) where
+  pub greatest-none : Greatest s from 0 from
+  greatest-none = (omega arith, λ j l m. absurd (omega arith), λ e. refl)
 
   module _ (greatest i : ℕ) where
-    module _ (g : ℕ) (less : i < length s) (inv : Greatest s greatest i) where
-      greatest-more : greatest ≤ g → getD s i 0 ≤ g → (s ≡ zeros (length s) → g ≡ 0) → Greatest s g (i + 1)
-      greatest-more m n z = (omega arith, below-more _ i (λ j h. omega (arith, inv .1 j h)) n, z)
+    module _ (g : ℕ) (inv : Greatest s from greatest i) where
+      greatest-more : greatest ≤ g → getD s i 0 ≤ g → (drop from s ≡ zeros (length (drop from s)) → g ≡ 0) → Greatest s from g (i + 1)
+      greatest-more m n z = (omega (arith, inv .0), below-more _ i (λ j h k. omega (arith, inv .1 j h k)) (λ k. n), z)
 
-      pub greatest-next : g ≡ getD s i 0 → greatest < getD s i 0 → Greatest s g (i + 1)
-      greatest-next e h = greatest-more (omega arith) (omega arith) (λ z. e ∙ zeros-at s i z)
+      pub greatest-next : g ≡ getD s i 0 → greatest < getD s i 0 → Greatest s from g (i + 1)
+      greatest-next e h =
+          let k : from + (i - from) ≡ i = omega (arith, inv .0) in
+          greatest-more (omega arith) (omega arith) (λ z. e ∙ ap (λ j. getD s j 0) (sym k) ∙ sym (getD-drop from s (i - from) 0) ∙ zeros-at (drop from s) (i - from) z)
 
-      pub greatest-stays : g ≡ greatest → getD s i 0 ≤ greatest → Greatest s g (i + 1)
+      pub greatest-stays : g ≡ greatest → getD s i 0 ≤ greatest → Greatest s from g (i + 1)
       greatest-stays e h = greatest-more (omega arith) (omega arith) (λ z. e ∙ inv .2 z)
 
-    pub greatest-all : length s ≤ i → Greatest s greatest i → TellsZeros s (eqb greatest 0)
+    pub greatest-all : length s ≤ i → Greatest s from greatest i → TellsZeros (drop from s) (eqb greatest 0)
     greatest-all h inv = at (eqb greatest 0) refl
       where
-        at : (b : Bool) → eqb greatest 0 ≡ b → TellsZeros s b
+        at : (b : Bool) → eqb greatest 0 ≡ b → TellsZeros (drop from s) b
         at true e =
             let z : greatest ≡ 0 = eqb-true greatest 0 e in
             record {
-              yes = λ q. ext-getD 0 s (zeros (length s)) (sym (length-zeros (length s))) (λ j l. omega (arith, inv .1 j (omega arith), zero-at (length s) j));
+              yes = λ q. ext-getD 0 (drop from s) (zeros (length (drop from s))) (sym (length-zeros (length (drop from s))))
+                  (λ j l. getD-drop from s j 0 ∙ omega (arith, inv .1 (from + j) (omega (arith, length-drop from s)) (omega arith), zero-at (length (drop from s)) j));
               no = λ q. apart (cc);
             }
         at false e = record { yes = λ q. apart (cc); no = λ q a. let z = eq-eqb greatest 0 (inv .2 a) in apart (cc) }

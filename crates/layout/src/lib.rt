@@ -2,6 +2,7 @@
 use octets::number;
 use octets::put_number;
 ghost use mathlib.Core.Path.{_≡_};
+ghost use lib.ListN.{drop};
 ghost use Rattle.octets.specs.Octets.{put};
 ghost use Rattle.layout.specs.Layout.{may, held};
 ghost use Rattle.layout.specs.Answers.{ReadsMay, TellsZeros};
@@ -69,12 +70,12 @@ pub fn put_may(out: &mut [u8], at: usize, w: usize, there: bool, x: u64)
     put_number(out, at + 1, w, 0);
 }
 
-// Whether all the bytes are zero: whether the greatest is. There is no early exit, so that the compiler can take many bytes at a time.
-pub fn are_zero(s: &[u8]) -> bool
-    ensures { λ r. ⌜ TellsZeros (now (s .entry)) r ⌝ }
+// Whether all the bytes from a place on are zero. Each of them is looked at, so that the compiler can take many at once.
+pub fn are_zero(s: &[u8], from: usize) -> bool
+    ensures { λ r. ⌜ TellsZeros (drop from (now (s .entry))) r ⌝ }
 {
     let mut greatest: u8 = 0;
-    let mut i: usize = 0;
+    let mut i = from;
     while i < s.len() {
         let b = s[i];
         if greatest < b {

@@ -120,14 +120,12 @@ module _ (s : List ℕ) (r : OpenRead) (u : UnreadOpen r) where
   pub open-idle : (place : May) → ReadsMay (take 5 (drop 5 s)) place → place .fine ≡ false → ReadsOpen s r
   open-idle place is f = no-settings s r u (λ S ok idle e. is .no 4 (omega arith) f (S .idleTimeOut) (ap (λ l. take 5 (drop 5 l)) e ∙ idle-part S))
 
-  pub open-rest : (end : ℕ) → end ≡ 11 + getD s 10 0 → (b : Bool) → TellsZeros (take (266 - end) (drop end s)) b → b ≡ false → ReadsOpen s r
+  pub open-rest : (end : ℕ) → end ≡ 11 + getD s 10 0 → (b : Bool) → TellsZeros (drop end s) b → b ≡ false → ReadsOpen s r
   open-rest end q b t f = no-settings s r u (λ S ok idle e.
       let short : length (S .containerId) ≤ 255 = id-within S ok in
       let n : end ≡ 11 + length (S .containerId) = q ∙ ap (λ k. 11 + k) (ap (λ l. getD l 10 0) e ∙ count-part S short) in
       let z : drop end s ≡ zeros (255 - length (S .containerId)) = ap₂ drop n e ∙ rest-part S in
-      let l : length (zeros (255 - length (S .containerId))) ≤ 266 - end = omega (arith, length-zeros (255 - length (S .containerId))) in
-      let a : take (266 - end) (drop end s) ≡ zeros (255 - length (S .containerId)) = ap (take (266 - end)) z ∙ take-all (266 - end) (zeros (255 - length (S .containerId))) l in
-      t .no f (a ∙ ap zeros (sym (ap length a ∙ length-zeros (255 - length (S .containerId))))))
+      t .no f (z ∙ ap zeros (sym (ap length z ∙ length-zeros (255 - length (S .containerId))))))
 
 -- ---- from_bytes, where there are parts
 
@@ -184,18 +182,16 @@ module _ (s : List ℕ) (size : length s ≡ 266) where
   pub millis-low : (place : May) → ReadsMay (take 5 (drop 5 s)) place → val.Fits w32 (place .number)
   millis-low place is = record { fits = is .low 4 five-long }
 
-  module _ (octets : Octets s) (end : ℕ) (ends : end ≡ 11 + getD s 10 0) (b : Bool) (rest : TellsZeros (take (266 - end) (drop end s)) b) (zero-rest : b ≡ true) where
+  module _ (octets : Octets s) (end : ℕ) (ends : end ≡ 11 + getD s 10 0) (b : Bool) (rest : TellsZeros (drop end s) b) (zero-rest : b ≡ true) where
     id-long : length (take (end - 11) (drop 11 s)) ≡ getD s 10 0
     id-long = length-take-le (end - 11) (drop 11 s) (omega (arith, length-drop 11 s, octets 10)) ∙ omega arith
 
     id-filled : drop 11 s ≡ filled 255 (take (end - 11) (drop 11 s))
     id-filled =
-        let l : length (drop end s) ≡ 266 - end = omega (arith, length-drop end s) in
         let m : 11 + (end - 11) ≡ end = omega arith in
-        let n : length (take (266 - end) (drop end s)) ≡ 255 - length (take (end - 11) (drop 11 s)) =
-        length-take-le (266 - end) (drop end s) (omega arith) ∙ omega (arith, id-long) in
+        let n : length (drop end s) ≡ 255 - length (take (end - 11) (drop 11 s)) = omega (arith, length-drop end s, id-long) in
         let z : drop (end - 11) (drop 11 s) ≡ zeros (255 - length (take (end - 11) (drop 11 s))) =
-        drop-drop (end - 11) 11 s ∙ ap (λ k. drop k s) m ∙ sym (take-all (266 - end) (drop end s) (omega arith)) ∙ rest .yes zero-rest ∙ ap zeros n in
+        drop-drop (end - 11) 11 s ∙ ap (λ k. drop k s) m ∙ rest .yes zero-rest ∙ ap zeros n in
         sym (take-append-drop (end - 11) (drop 11 s)) ∙ ap (λ l. take (end - 11) (drop 11 s) ++ l) z
 
     module _ (place : May) (is : ReadsMay (take 5 (drop 5 s)) place) (fine : place .fine ≡ true) (x : ℕ) (number : x ≡ bigEndian (take 8 (take 4 s))) where

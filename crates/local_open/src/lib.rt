@@ -225,7 +225,7 @@ impl LocalOpen {
             return unread();
         }
         let end = id_end(s[10]);
-        if !are_zero(&s[end..266]) {
+        if !are_zero(s, end) {
             return unread();
         }
         let size = number(&s[..4]);

@@ -30,15 +30,6 @@ returns-2 c = search steps
 add-end : tie.Need-add-end
 add-end c = search steps
 
-sub-are-zero : tie.Need-sub-are-zero
-sub-are-zero c = search steps
-
-part-are-zero-start : tie.Need-part-are-zero-start
-part-are-zero-start c = search steps
-
-part-are-zero-end : tie.Need-part-are-zero-end
-part-are-zero-end c = search steps
-
 are-zero-requires : tie.Need-are-zero-requires
 are-zero-requires c κs = search steps
 
@@ -60,13 +51,13 @@ part-link-end c = search steps
 link-requires : tie.Need-link-requires
 link-requires c κs = search steps
 
-cast-t18 : tie.Need-cast-t18
-cast-t18 c = search steps
+cast-t15 : tie.Need-cast-t15
+cast-t15 c = search steps
 
 returns-4 : tie.Need-returns-4
 returns-4 c =
     let z = c .before .before .before .before .before in
-    let n = z .before .before .before in
+    let n = z .before .before in
     free-read (n .before .before .before .before .args .s .now) (omega arith) (λ i. omega (arith, n .before .before .before .shared-slice-known .given i)) (n .number .result) (n .number .ensures .0) (omega arith) _ (z .are-zero .ensures)
     (not-false _ (c .before .before .before .before .if3 .left)) _ (c .before .before .link .ensures)
 
@@ -81,9 +72,6 @@ read-free-spec =
     no-list-requires-2
     returns-2
     add-end
-    sub-are-zero
-    part-are-zero-start
-    part-are-zero-end
     are-zero-requires
     no-list-requires-3
     returns-3
@@ -91,5 +79,5 @@ read-free-spec =
     part-link-start
     part-link-end
     link-requires
-    cast-t18
+    cast-t15
     returns-4)

@@ -11,10 +11,10 @@ use Rattle.layout.proofs.are_zero.Tie as tie
 ruleset steps = (greatest-none, greatest-next, greatest-stays, greatest-all, needs)
 
 abbrev Inv-loop : tie.InvT-loop
-Inv-loop s greatest₀ i₀ greatest i = Greatest s greatest i
+Inv-loop s from greatest₀ i₀ greatest i = Greatest s from greatest i
 
 abbrev μ-loop : tie.MeasureT-loop
-μ-loop s greatest₀ i₀ greatest i = length s - i
+μ-loop s from greatest₀ i₀ greatest i = length s - i
 
 loop-holds : tie.Need-loop-holds Inv-loop μ-loop
 loop-holds c = search steps

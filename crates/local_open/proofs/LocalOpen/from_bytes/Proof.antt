@@ -39,15 +39,6 @@ shared-slice-read-id-end c = search needs
 id-end-requires : tie.Need-id-end-requires
 id-end-requires c κs = search needs
 
-sub-are-zero : tie.Need-sub-are-zero
-sub-are-zero c = search needs
-
-part-are-zero-start : tie.Need-part-are-zero-start
-part-are-zero-start c = search needs
-
-part-are-zero-end : tie.Need-part-are-zero-end
-part-are-zero-end c = search needs
-
 are-zero-requires : tie.Need-are-zero-requires
 are-zero-requires c κs = search needs
 
@@ -58,7 +49,7 @@ returns-3 : tie.Need-returns-3
 returns-3 c = search steps
 
 slice-aggregate-number : tie.Need-slice-aggregate-number
-slice-aggregate-number c = size-long (c .before .before .before .before .before .before .before .before .before .before .before .before .args .s .now) (omega arith)
+slice-aggregate-number c = size-long (c .before .before .before .before .before .before .before .before .before .before .before .args .s .now) (omega arith)
 
 number-requires : tie.Need-number-requires
 number-requires c κs = search needs
@@ -73,14 +64,14 @@ part-judged-end : tie.Need-part-judged-end
 part-judged-end c = search needs
 
 cast-judged : tie.Need-cast-judged
-cast-judged c = size-low (c .before .before .before .before .before .before .before .before .before .before .before .before .before .before .args .s .now) (omega arith) _ (c .before .number .ensures .1)
+cast-judged c = size-low (c .before .before .before .before .before .before .before .before .before .before .before .before .before .args .s .now) (omega arith) _ (c .before .number .ensures .1)
 
 shared-slice-read-judged : tie.Need-shared-slice-read-judged
 shared-slice-read-judged c = search needs
 
 cast-judged-2 : tie.Need-cast-judged-2
 cast-judged-2 c =
-    let m = c .before .before .before .before .before .before .before .before .before .before .before .before in
+    let m = c .before .before .before .before .before .before .before .before .before .before .before in
     millis-low (m .before .before .before .before .args .s .now) (omega arith) (m .read-may .result) (m .read-may .ensures)
 
 judged-requires : tie.Need-judged-requires
@@ -90,7 +81,7 @@ returns-4 : tie.Need-returns-4
 returns-4 c =
     let n = c .before .before .before .before in
     let z = n .before .before .before in
-    let e = z .before .before in
+    let e = z .before in
     let m = e .before .before .before .before in
     let s = m .before .before .before .before .args .s .now in
     open-judged s (omega arith) (λ i. omega (arith, m .before .before .before .shared-slice-known .given i)) (e .id-end .result) (e .id-end .ensures .0) (z .are-zero .result) (z .are-zero .ensures) (not-false _ (n .before .before .if3 .left))
@@ -110,9 +101,6 @@ from-bytes-spec =
     returns-2
     shared-slice-read-id-end
     id-end-requires
-    sub-are-zero
-    part-are-zero-start
-    part-are-zero-end
     are-zero-requires
     unread-requires-3
     returns-3
