@@ -6,7 +6,7 @@ set -euo pipefail
 archive="$(realpath "${1:-/dev/null}")"
 cd "$(dirname "$0")/.."
 for tool in gcc g++ valgrind; do
-    command -v "$tool" > /dev/null || { apt-get update -qq && apt-get install -y -qq "$tool" libc6-dev; } > /dev/null
+    command -v "$tool" > /dev/null || tests/install.sh "$tool" libc6-dev
 done
 work=target/c
 mkdir -p "$work"

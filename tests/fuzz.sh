@@ -99,7 +99,7 @@ fi
 seconds="${1:-60}"
 [ -f "$archive" ] || { echo "fuzz.sh: there is no $archive" >&2; exit 1; }
 if ! command -v clang-14 > /dev/null || [ ! -f "$(clang-14 -print-runtime-dir)/libclang_rt.fuzzer-x86_64.a" ]; then
-    { apt-get update -qq && apt-get install -y -qq --no-install-recommends clang-14 libclang-rt-14-dev; } > /dev/null
+    tests/install.sh --no-install-recommends clang-14 libclang-rt-14-dev
 fi
 export ASAN_OPTIONS=detect_leaks=0:quarantine_size_mb=16
 is_kept || keep_module

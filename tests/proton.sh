@@ -12,7 +12,7 @@ missing=()
 command -v gcc > /dev/null || missing+=(gcc libc6-dev)
 [ -f /usr/include/proton/codec.h ] || missing+=(libqpid-proton11-dev)
 if [ "${#missing[@]}" -gt 0 ]; then
-    { apt-get update -qq && apt-get install -y -qq --no-install-recommends "${missing[@]}"; } > /dev/null
+    tests/install.sh --no-install-recommends "${missing[@]}"
 fi
 if [ -z "${HISPROAT_ARCHIVE:-}" ] && [ ! -f "$archive" ]; then
     rt staticlib hisproat > "$work/staticlib.log" 2>&1 || { cat "$work/staticlib.log" >&2; exit 1; }
