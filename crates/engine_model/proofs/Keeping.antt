@@ -1,25 +1,23 @@
--- Events that leave the engine as it was: a frame that only goes on to its session, a session's frame that a dialler sends, and a tick.
+-- Events that leave the engine as it was: a frame that only goes on to its session, and a session's frame that a dialler sends.
 -- Assumes nothing.
 use mathlib.Core.Path.{_≡_, refl, sym, _∙_, ap, subst}
-use mathlib.Core.Bool.{Bool, true, false, cond, _&&_}
+use mathlib.Core.Bool.{Bool, true, false, cond}
 use mathlib.Core.List.{List, [], _∷_, _++_}
 use mathlib.Core.Option.{Option, none, some}
 use Prim.Native.Nat.{ℕ}
-use native.Mathlib.Omega.{arith}
 use lib.Dec.{T, eqb}
-use Rattle.octets.specs.Verdict.{Verdict, refuse, accept, andThen}
+use Rattle.octets.specs.Verdict.{Verdict, refuse, accept}
 use Rattle.performatives.specs.Performative.{Performative, remoteChannel}
-use Rattle.frame_decoder.specs.Frame.{Frame, readFrame, sessionFrame, sessionFrames, beginsFor}
-use Rattle.frame_encoder.specs.Frames.{Settings, limited, frameBytes}
+use Rattle.frame_decoder.specs.Frame.{Frame, readFrame, sessionFrame, sessionFrames}
+use Rattle.frame_encoder.specs.Frames.{Settings, limited}
 use Rattle.session_frame.specs.Session.{sessionBytes}
-use Rattle.connection_state.specs.States.{State, Start, HeaderReceived, HeaderSent, HeaderExchange, OpenPipe, OpenClosePipe, OpenReceived, OpenSent, ClosePipe, Opened, CloseReceived, CloseSent, Discarding, End, is, isOneOf, along, reading, readOpen, readClose, sending, silent}
+use Rattle.connection_state.specs.States.{State, Opened, Discarding, End, is, isOneOf, along, reading, readOpen, readClose}
+use Rattle.connection_state.proofs.States.{is-state}
 use Rattle.connection_model.specs.Connection as M
 use Rattle.connection_model.specs.Connection.{Role, dialler, listener, Connection, sendSessionFrame, receiveFrame, Answer, wrote, stop, header, otherProtocol, nothingToDo, opened, closed, forward, began, channel, freed, Effect, stay, tie, forwarded, tieTo, untie, passOn, newSession, begun, sessionRead, sessionSent, frameRead, apply, decide, answered}
-use Rattle.connection_model.proofs.Rules.{Holds, refused, holds, on-require, on-cond, on-any, on-andThen}
-use Rattle.engine_model.specs.Engine.{Outcome, fine, Phase, running, awaiting, stopped, Engine, isRunning, incoming, outgoing, tick, Reply, Landing, landing, Result, results, settled, well, goes, further, trail, framesIn, isClose, reads, judge, replied, landed, next, endedIn}
-
-clash : {A : Type 0} → true ≡ false → A
-clash q = absurd (subst T q tt)
+use Rattle.connection_model.proofs.Rules.{Holds, refused, holds, on-require, on-cond, on-any, on-andThen, one-of}
+use Rattle.engine_model.specs.Engine.{Outcome, fine, Phase, running, awaiting, stopped, Engine, isRunning, incoming, outgoing, Reply, Landing, landing, Result, results, settled, goes, further, trail, framesIn, isClose, reads, judge, replied, landed, next, endedIn}
+use Rattle.engine_model.proofs.Laws.{clash}
 
 -- ---- a frame that only goes on
 
@@ -84,20 +82,7 @@ module _ (role : Role) (S : Settings) (c : Connection) where
 -- ---- states that go on
 
 reading-on : (x : State) → T (isOneOf reading x) → x ≡ Opened
-reading-on Start t = absurd t
-reading-on HeaderReceived t = absurd t
-reading-on HeaderSent t = absurd t
-reading-on HeaderExchange t = absurd t
-reading-on OpenPipe t = absurd t
-reading-on OpenClosePipe t = absurd t
-reading-on OpenReceived t = absurd t
-reading-on OpenSent t = absurd t
-reading-on ClosePipe t = absurd t
-reading-on Opened t = refl
-reading-on CloseReceived t = absurd t
-reading-on CloseSent t = absurd t
-reading-on Discarding t = absurd t
-reading-on End t = absurd t
+reading-on x t = sym (is-state Opened x (one-of (is Opened) reading tt x t))
 
 -- ---- an event that leaves the engine as it was
 
@@ -159,10 +144,6 @@ module _ (role : Role) (S : Settings) where
 abbrev Stays : M.Outcome → Type 0
 Stays o = o .effect ≡ stay
 
-tick-stays : (role : Role) (S : Settings) (c : Connection) (out : List ℕ) → Holds Stays (decide role S c (M.tick out))
-tick-stays role S c out =
-    on-require _ _ _ _ (λ t. on-cond _ (is End (c .state)) _ _ (λ u. holds refl) (on-cond _ (isOneOf silent (c .state)) _ _ (λ u. holds refl) (holds refl)))
-
 -- a dialler's Begin ties nothing when it is sent
 sent-stays : (S : Settings) (c : Connection) (s out : List ℕ) → Holds Stays (decide dialler S c (sendSessionFrame s out))
 sent-stays S c s out =
@@ -189,9 +170,6 @@ module _ (S : Settings) (e : Engine) (t : T (isRunning (e .phase))) where
       let same : apply S x (e .connection) ≡ e .connection = ap (λ y. apply S y (e .connection)) q in
       λ i. record { phase = (goes-on (is End (apply S x (e .connection) .state)) n ∙ runs (e .phase) t) i; connection = same i }
 
-  settled-well : {v : Verdict M.Outcome} → Holds Stays v → Holds (Settled e) (andThen v (well S (e .connection)))
-  settled-well h = on-andThen (Settled e) {Q = Stays} (well S (e .connection)) h (λ o q. holds (λ a i n. settles (o .effect) q (o .bytes) n))
-
   unsent : (l : Landing) (consumed k : ℕ) → Holds (Settled e) (results l consumed (some (refuse k)))
   unsent l consumed k = let g : Settled e (record { lands = l; consumed = consumed; inner = some (refuse k) }) = λ a i n. cc in holds g
 
@@ -202,12 +180,6 @@ module _ (S : Settings) (e : Engine) (t : T (isRunning (e .phase))) where
 landed-settled : (e : Engine) {v : Verdict Result} → Holds (Settled e) v → (y : Reply) → replied v ≡ accept y → (a : Answer) → y .inner ≡ some (accept a) → y .ended ≡ none → landed v e ≡ e
 landed-settled e refused y q a i n = refl
 landed-settled e (holds {a = r} k) y q a i n = k a (ap told q ∙ i) (ap endedTold q ∙ n)
-
--- a tick that does not stop the engine leaves it as it was
-pub ticked-on :
-    (role : Role) (S : Settings) (e : Engine) (out : List ℕ) (y : Reply) (a : Answer) → replied (judge role S e (tick out)) ≡ accept y → y .inner ≡ some (accept a) → y .ended ≡ none
-    → next role S e (tick out) ≡ e
-ticked-on role S e out y a q i n = landed-settled e (on-require _ _ _ _ (λ t1. on-require _ _ _ _ (λ t. settled-well S e t (tick-stays role S (e .connection) out)))) y q a i n
 
 -- a session's frame that a dialler sends leaves the engine as it was
 pub sent-on :

@@ -26,7 +26,7 @@ refusal-keeps role S e event k p = (ap (λ v. landed v e) p, ap (λ v. laid (wri
 
 -- ---- events that a phase does not take
 
-clash : {A : Type 0} → true ≡ false → A
+pub clash : {A : Type 0} → true ≡ false → A
 clash q = absurd (subst T q tt)
 
 -- refused before any of the input is looked at: 9, 8, 20

@@ -46,16 +46,18 @@ unfolding told
 told-is limit highest s a h = rw (le-leb 27 (length a) h)
 
 module _ (limit highest : ℕ) (s a : List ℕ) (room : 27 ≤ length a) (r : Frame) (read : frameSays r ≡ frameAnswer limit highest s) where
+  told-by : (x : Frame) → r ≡ x → tells (frameSays x) a ≡ told limit highest s a
+  told-by x e = sym (told-is limit highest s a room ∙ ap (λ v. tells v a) (sym read) ∙ ap (λ x. tells (frameSays x) a) e)
+
   pub told-refused : (k : ℕ) → r ≡ Refused k → record { returned = k; answer = a } ≡ told limit highest s a
-  told-refused k e = sym (told-is limit highest s a room ∙ ap (λ v. tells v a) (sym read) ∙ ap (λ x. tells (frameSays x) a) e)
+  told-refused k e = told-by (Refused k) e
 
   pub told-empty :
       (channel size from : ℕ) (o : List ℕ) → r ≡ Empty channel size from → o ≡ put a 0 (frameBytes 0 channel from 0 size)
       → record { returned = 0; answer = o } ≡ told limit highest s a
-  told-empty channel size from o e p = rw p (sym (told-is limit highest s a room ∙ ap (λ v. tells v a) (sym read) ∙ ap (λ x. tells (frameSays x) a) e))
+  told-empty channel size from o e p = rw p (told-by (Empty channel size from) e)
 
   pub told-body :
       (channel size from end code : ℕ) (performative : Performative) (o : List ℕ) → r ≡ Body channel size from performative end → code ≡ performativeSays performative .0
       → o ≡ put a 0 (frameBytes code channel from end size) → record { returned = 0; answer = o } ≡ told limit highest s a
-  told-body channel size from end code performative o e q p =
-      rw (p, q) (sym (told-is limit highest s a room ∙ ap (λ v. tells v a) (sym read) ∙ ap (λ x. tells (frameSays x) a) e))
+  told-body channel size from end code performative o e q p = rw (p, q) (told-by (Body channel size from performative end) e)

@@ -5,7 +5,7 @@ use mathlib.Core.Bool.{Bool, true, false, not, _||_}
 use mathlib.Core.List.{List, [], _∷_}
 use mathlib.Core.Option.{Option, none, some}
 use Prim.Native.Nat.{ℕ, _≤_}
-use lib.Dec.{T, eqb}
+use lib.Dec.{eqb}
 use lib.ListN.{length}
 use borrow.Author.Tests.{ne-eqb}
 use types.Run.{OneOf, miss}
@@ -21,6 +21,7 @@ use Rattle.endpoint.specs.declared.FrameAnswer.{FrameAnswer}
 use Rattle.endpoint.specs.declared.FrameAnswer.the-variants.{NothingToDo, Opened, Closed, Forward, Began, Refused as NoFrame}
 use Rattle.endpoint.proofs.FrameAnswer.{the-type as frame-type}
 use Rattle.engine_model.specs.Engine.{Event, incoming, outgoing, Reply, replied, judge, next}
+use Rattle.engine_model.proofs.Laws.{clash}
 use Rattle.engine_model.proofs.Keeping.{passed-on, sent-on}
 use Rattle.engine.specs.declared.ConnectionEngine.{ConnectionEngine}
 use Rattle.engine.specs.declared.Running.{Running}
@@ -64,12 +65,9 @@ sent-not-on Listener (Refused k) a o = refl
 
 -- ---- by the definition
 
-clash : {A : Type 0} → false ≡ true → A
-clash q = absurd (subst T (sym q) tt)
-
 not-or : (a b : Bool) → not (a || b) ≡ true → (a ≡ false) × (b ≡ false)
-not-or true b q = clash q
-not-or false true q = clash q
+not-or true b q = clash (sym q)
+not-or false true q = clash (sym q)
 not-or false false q = (refl, refl)
 
 told-inner : (r : Running) (consumed written : ℕ) (v : Option (Verdict Answer)) (y : Reply) → replySays r consumed written v ≡ accept y → y .inner ≡ v
@@ -88,11 +86,11 @@ module _ (e later : ConnectionEngine) (z : Sound e) (out : List ℕ) where
   keeps-passed s h w o r consumed written (Forward n code k from len) kept q d t y i =
       let c = not-or (eqb code 17) (eqb code 23) (sym q ∙ t) in
       passed-on (roleOf e) (settingsOf e) (viewOf e) s h w o y n code k from len (sym (ap (λ x. x .reply) (d .meets z .draws)) ∙ i) (told-inner r consumed written _ y i) (c .0) (c .1)
-  keeps-passed s h w o r consumed written (NothingToDo n) kept q d t y i = clash (sym q ∙ t)
-  keeps-passed s h w o r consumed written (Opened n idle) kept q d t y i = clash (sym q ∙ t)
-  keeps-passed s h w o r consumed written (Closed n error) kept q d t y i = clash (sym q ∙ t)
-  keeps-passed s h w o r consumed written (Began n ch k from len) kept q d t y i = clash (sym q ∙ t)
-  keeps-passed s h w o r consumed written (NoFrame k) kept q d t y i = clash (sym q ∙ t)
+  keeps-passed s h w o r consumed written (NothingToDo n) kept q d t y i = clash (sym t ∙ q)
+  keeps-passed s h w o r consumed written (Opened n idle) kept q d t y i = clash (sym t ∙ q)
+  keeps-passed s h w o r consumed written (Closed n error) kept q d t y i = clash (sym t ∙ q)
+  keeps-passed s h w o r consumed written (Began n ch k from len) kept q d t y i = clash (sym t ∙ q)
+  keeps-passed s h w o r consumed written (NoFrame k) kept q d t y i = clash (sym t ∙ q)
 
   ended-none : (written : ℕ) (v : Option (Verdict Answer)) (y : Reply) → replySays Continue 0 written v ≡ accept y → y .ended ≡ none
   ended-none written v y i = cc
@@ -110,10 +108,10 @@ module _ (e later : ConnectionEngine) (z : Sound e) (out : List ℕ) where
       (s o : List ℕ) (role : Role) (r : Running) (written : ℕ) (a : Written) (kept : Bool) → role ≡ roleOf e → kept ≡ sentOn role r (sentSays a)
       → Does (outgoing s o) e (replySays r 0 written (some (sentSays a))) out later → Keeps (outgoing s o) e (replySays r 0 written (some (sentSays a))) kept
   keeps-sent s o dialler Continue written (Bytes n) kept p q d t y i = keeps-dialler s o written n p d y i
-  keeps-sent s o dialler Continue written (NotWritten k) kept p q d t y i = clash (sym q ∙ t)
-  keeps-sent s o dialler (Stop x) written a kept p q d t y i = clash (sym q ∙ t)
-  keeps-sent s o dialler (Refused k) written a kept p q d t y i = clash (sym q ∙ t)
-  keeps-sent s o listener r written a kept p q d t y i = clash (sym q ∙ t)
+  keeps-sent s o dialler Continue written (NotWritten k) kept p q d t y i = clash (sym t ∙ q)
+  keeps-sent s o dialler (Stop x) written a kept p q d t y i = clash (sym t ∙ q)
+  keeps-sent s o dialler (Refused k) written a kept p q d t y i = clash (sym t ∙ q)
+  keeps-sent s o listener r written a kept p q d t y i = clash (sym t ∙ q)
 
 -- ---- what the call comes to
 

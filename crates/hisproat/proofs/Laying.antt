@@ -1,12 +1,11 @@
 -- How numbers are laid into the lent answer, one after the other, with the facts as they come.
 -- Assumes nothing.
-use mathlib.Core.Path.{_≡_, refl, sym, _∙_, ap, ap₂, subst}
+use mathlib.Core.Path.{_≡_, refl, sym, _∙_, ap, ap₂}
 use mathlib.Core.Bool.{Bool, true, false}
 use mathlib.Core.List.{List, [], _∷_, _++_, append-assoc}
 use mathlib.Core.Option.{Option, some}
 use Prim.Native.Nat.{ℕ, _+_, _≤_, _<_}
 use native.Mathlib.Omega.{arith}
-use lib.Dec.{T}
 use lib.ListN.{length, length-append}
 use types.Run.{OneOf, miss}
 use denote.Enum.Declared.{tagOf}
@@ -15,6 +14,7 @@ use Rattle.octets.specs.Verdict.{Verdict}
 use Rattle.octets.proofs.Laws.{length-bytesOf, put-not}
 use Rattle.layout.proofs.Parts.{Laid, first, more}
 use Rattle.connection_model.specs.Connection.{Answer}
+use Rattle.engine_model.proofs.Laws.{clash}
 use Rattle.engine.specs.declared.ConnectionEngine.{ConnectionEngine}
 use Rattle.engine.specs.declared.Outcome.{Outcome}
 use Rattle.engine.specs.declared.Outcome.the-variants.{Fine, TransportError, IllegalState, NotFound, NotImplemented, RemoteClosed, RemoteClosedWithError}
@@ -146,16 +146,13 @@ module _ (d : Done) (x : ConnectionEngine) (s a s′ a′ : List ℕ) where
 
 -- an engine that is kept is not laid
 
-apart : {A : Type 0} → true ≡ false → A
-apart q = absurd (subst T q tt)
-
 pub kept-told : (kept : Bool) (d : Done) (x : ConnectionEngine) (s a : List ℕ) (k : ℕ) (a′ : List ℕ) → kept ≡ true → Tells d a k a′ → FinishesKept kept d x s a k s a′
-kept-told kept d x s a k a′ e t = record { kept-told = t; kept-state = λ q. refl; kept-not = λ q. apart (sym e ∙ q) }
+kept-told kept d x s a k a′ e t = record { kept-told = t; kept-state = λ q. refl; kept-not = λ q. clash (sym e ∙ q) }
 
 pub kept-not :
     (kept : Bool) (d : Done) (x : ConnectionEngine) (s a : List ℕ) (k : ℕ) (s′ a′ : List ℕ) → kept ≡ false → Finishes d x s a k s′ a′ → FinishesKept kept d x s a k s′ a′
 kept-not kept d x s a k s′ a′ e f = record {
   kept-told = record { tells-number = f .finishes-number; tells-answer = f .finishes-answer };
-  kept-state = λ q. apart (sym q ∙ e);
+  kept-state = λ q. clash (sym q ∙ e);
   kept-not = λ q. f .finishes-state;
 }
