@@ -2,8 +2,10 @@
 """Holds the logs of the wrong programs to what their edit files say. Run after `rt ci`, in the repository's top folder.
 
 An edit in crates/NAME/must-fail/ makes a mistake in each of several functions. Its lines `refused: ..` name them all, and its
-lines `callers: ..` those that are not proved only because they call one of them. This script fails unless
+lines `callers: ..` those that are not proved only because they call one of them. An edit that makes contracts say less, so that the
+functions still meet them, names on its lines `theorem: ..` the laws about the contracts that then fail. This script fails unless
 - in the edit's log a fact fails in each function on `refused:`, and besides those only the `callers:` are not proved;
+- in the log of an edit with `theorem:` lines just the laws on them fail;
 - no error says only that a name or a place in a proof is gone: such an edit has another shape than the code;
 - every public function of a library is wrong in at least two edits.
 An edit of a crate without functions changes a definition, and has no such lines.
@@ -53,29 +55,35 @@ def function_at(place, message):
 
 
 def judged(crate, log):
-    """What a log says of each function, in which of them a fact fails, and the errors that speak of shape."""
+    """What a log says of each function, in which of them a fact fails, which laws fail, and the errors that speak of shape."""
     verdicts = dict(re.findall(rf"^fn {crate.name}::(\S+): (.*)", log, re.M))
     wrong = {name for name, verdict in verdicts.items() if "does not close" in verdict}
-    shape = []
+    laws, shape = set(), []
     for place, message in re.findall(r"^(\S+): error: (.*(?:\n +.*)*)", log, re.M):
         if SHAPE.search(message):
             shape.append(f"{place}: {message[:300]}")
-        elif CONSEQUENCE not in message:
+        elif CONSEQUENCE in message:
+            continue
+        elif "/Proof.antt" in place:
             wrong.add(function_at(place, message))
-    return verdicts, wrong, shape
+        else:
+            laws |= set(re.findall(r"^`([^`]+)`:", message))
+    return verdicts, wrong, laws, shape
 
 
 def faults_of(crate, edit):
     log = Path("target/must-fail", crate.name, edit.stem, ".log")
     if not log.is_file():
         return ["there is no log"]
-    verdicts, wrong, shape = judged(crate, text(log))
+    verdicts, wrong, laws, shape = judged(crate, text(log))
     fallen = {name for name, verdict in verdicts.items() if verdict != "proved"}
     wrong &= fallen
-    refused, callers = named(edit, "refused"), named(edit, "callers")
+    refused, callers, theorem = named(edit, "refused"), named(edit, "callers"), named(edit, "theorem")
     faults = [f"refused for its shape, {error}" for error in shape]
-    if verdicts and not refused:
+    if verdicts and not refused and not theorem:
         faults.append("no `refused:` line")
+    if theorem:
+        faults += [f"the law {name} does not fail as its `theorem:` lines have it" for name in sorted(theorem ^ laws)]
     faults += [f"no fact fails in {name}" for name in sorted(refused - wrong)]
     faults += [f"{name} is wrong, and not on a `refused:` line" for name in sorted(wrong - refused)]
     faults += [f"{name} falls, and is not on a `callers:` line" for name in sorted(fallen - wrong - callers)]

@@ -3,5 +3,6 @@ pub mod Calls
 pub mod Writing
 pub mod Reading
 pub mod Sessions
-pub mod Port
+pub mod Runs
+pub mod Theorem
 pub mod Bytes

@@ -1,4 +1,3 @@
 pub mod View
 pub mod Bytes
 pub mod Promises
-pub mod Port
