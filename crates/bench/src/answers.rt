@@ -3,6 +3,7 @@ use channels::Held;
 use connection::AllocateAnswer;
 use connection::TickAnswer;
 use endpoint::FrameAnswer;
+use engine::DeallocateAnswer;
 
 pub(crate) fn plus(a: u64, b: u64) -> u64 {
     std::num::wrapping_add_u64(a, b)
@@ -37,6 +38,13 @@ pub(crate) fn held(answer: Held) -> u64 {
     match answer {
         Held::Handle(handle) => handle as u64,
         Held::Nothing => 0,
+    }
+}
+
+pub(crate) fn freed(answer: DeallocateAnswer) -> u64 {
+    match answer {
+        DeallocateAnswer::Freed(handle) => handle as u64,
+        DeallocateAnswer::Refused(_) => 0,
     }
 }
 

@@ -1,8 +1,8 @@
 // The operations as events of an engine, each so many times over on the engine that the one before gave back. Each answers a sum of what the events
 // answered. No session frame ever waits.
 use crate::answers::channel_of;
+use crate::answers::freed;
 use crate::answers::handle_of;
-use crate::answers::held;
 use crate::answers::idle_of;
 use crate::answers::next;
 use crate::answers::plus;
@@ -37,10 +37,10 @@ pub(crate) fn pairs(hub: ConnectionEngine, last: u8, rounds: u64) -> u64 {
     let mut channel: u8 = 0;
     let mut left = rounds;
     while 0 < left {
-        let freed = engine.on_deallocate(wide(channel));
-        let answer = freed.answer;
-        sum = plus(sum, held(answer));
-        let without = freed.engine;
+        let given_back = engine.on_deallocate(wide(channel));
+        let answer = given_back.answer;
+        sum = plus(sum, freed(answer));
+        let without = given_back.engine;
         let given = without.on_allocate(2000);
         let answer = given.answer;
         sum = plus(sum, channel_of(answer));

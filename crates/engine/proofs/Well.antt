@@ -34,10 +34,11 @@ use Rattle.engine_model.specs.Engine.{Event, Reply, Result, well, lent, isRunni
 use Rattle.engine.specs.declared.ConnectionEngine.{ConnectionEngine}
 use Rattle.engine.specs.declared.Phase.{Phase}
 use Rattle.engine.specs.declared.Phase.the-variants.{Running, Awaiting, Stopped}
+use Rattle.engine.specs.declared.DeallocateAnswer.the-variants.{Freed}
 use Rattle.engine.specs.declared.OnHeartbeat.{OnHeartbeat}
 use Rattle.engine.specs.declared.Running as R
 use Rattle.engine.specs.declared.Running.the-variants.{Continue, Stop, Refused as NotRun}
-use Rattle.engine.specs.Answers.{tickCount, roleOf, settingsOf, viewOf, Sound, phaseSays, goesOn, reply, replySays, outcomeSays}
+use Rattle.engine.specs.Answers.{freedSays, tickCount, roleOf, settingsOf, viewOf, Sound, phaseSays, goesOn, reply, replySays, outcomeSays}
 use Rattle.engine.specs.Promises.{Does, Settles}
 use Rattle.engine.proofs.Counted.{writtenIn}
 use Rattle.engine.proofs.Does.{comesTo, does, refuses, ruleOf, inner-refused, inner-accepted, Accepted}
@@ -135,10 +136,10 @@ module _ (e : ConnectionEngine) (b : Bool) (ends : b ≡ not (isRunning (phaseSa
 
   pub deallocate-done :
       (ch : ℕ) (a : Held) (h : ℕ) (d : Connection) (e′ : ConnectionEngine) (r : R.Running) → b ≡ false → C.Does (K.deallocate ch) (e .connection) (deallocateSays a) [] d
-      → a ≡ Handle h → Settles d e′ → r ≡ goesOn (e′ .phase) → Does (M.deallocate ch) e (replySays r 0 0 (some (deallocateSays a))) [] e′
+      → a ≡ Handle h → Settles d e′ → r ≡ goesOn (e′ .phase) → Does (M.deallocate ch) e (replySays r 0 0 (some (freedSays (Freed h)))) [] e′
   deallocate-done ch a h d e′ r t p o s q =
-      subst (λ u. Does (M.deallocate ch) e (replySays u 0 0 (some (deallocateSays a))) [] e′) (sym q)
-      (well-done (M.deallocate ch) (K.deallocate ch) e e′ d (K.freed h) _ [] 0 (deallocates ch t) p (ap deallocateSays o) refl s)
+      subst (λ u. Does (M.deallocate ch) e (replySays u 0 0 (some (accept (K.freed h)))) [] e′) (sym q)
+      (well-done (M.deallocate ch) (K.deallocate ch) e e′ d (K.freed h) _ [] 0 (deallocates ch t) (subst (λ x. C.Does (K.deallocate ch) (e .connection) (deallocateSays x) [] d) o p) refl refl s)
 
   -- 9 comes before the phase
   ticks-by : (out : List ℕ) (room : Bool) → b ≡ false → require 9 room (λ _. require 20 (isRunning (phaseSays (e .phase))) (λ _. andThen (require 9 room (λ _. K.ticked (viewOf e .connection .state))) (well (settingsOf e) (viewOf e .connection)))) ≡ andThen (require 9 room (λ _. K.ticked (viewOf e .connection .state))) (well (settingsOf e) (viewOf e .connection))

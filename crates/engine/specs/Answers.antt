@@ -8,7 +8,7 @@ use Rattle.octets.specs.Verdict.{Verdict, refuse, accept}
 use Rattle.octets.specs.declared.Written.{Written}
 use Rattle.octets.specs.declared.Written.the-variants.{Bytes, Refused as NotWritten}
 use Rattle.frame_encoder.specs.Frames.{Settings}
-use Rattle.connection_model.specs.Connection.{Role, Answer}
+use Rattle.connection_model.specs.Connection.{Role, Answer, freed}
 use Rattle.connection.specs.View as C
 use Rattle.connection.specs.declared.TickAnswer.{TickAnswer}
 use Rattle.connection.specs.declared.TickAnswer.the-variants.{Wrote, Stop as Idle, Refused as NotTicked}
@@ -21,6 +21,8 @@ use Rattle.engine.specs.declared.Phase.{Phase}
 use Rattle.engine.specs.declared.Phase.the-variants.{Running, Awaiting, Stopped}
 use Rattle.engine.specs.declared.Running as R
 use Rattle.engine.specs.declared.Running.the-variants.{Continue, Stop, Refused}
+use Rattle.engine.specs.declared.DeallocateAnswer.{DeallocateAnswer}
+use Rattle.engine.specs.declared.DeallocateAnswer.the-variants.{Freed, Refused as NotFreed}
 use Rattle.engine.specs.declared.InnerError.{InnerError}
 use Rattle.engine.specs.declared.InnerError.the-variants.{TransportError as TransportFailed, IllegalState as StateIllegal, NotFound as Unknown, SessionNotFound, OutgoingChannelNotFound, NotImplemented as Missing, RemoteSession}
 use Rattle.engine.specs.declared.ConnectionEngine.{ConnectionEngine}
@@ -91,6 +93,10 @@ Bare (Refused k) consumed written P = (consumed ≡ 0) × (written ≡ 0) × P k
 abbrev pub openingSays : ℕ → ℕ → Verdict Answer → Verdict Reply
 openingSays consumed written (refuse k) = refuse k
 openingSays consumed written (accept a) = reply none consumed written (some (accept a))
+
+abbrev pub freedSays : DeallocateAnswer → Verdict Answer
+freedSays (Freed h) = accept (freed h)
+freedSays (NotFreed k) = refuse k
 
 -- how many bytes were written
 abbrev pub sentCount : Written → ℕ

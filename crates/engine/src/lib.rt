@@ -22,7 +22,6 @@ ghost use mathlib.Core.Bool.{not};
 ghost use mathlib.Core.List.{[]};
 ghost use mathlib.Core.Option.{none, some};
 ghost use Rattle.octets.specs.declared.Written.the-variants.{Refused as NotWritten};
-ghost use Rattle.channels.specs.declared.Held.the-variants.{Nothing};
 ghost use Rattle.endpoint.specs.declared.FrameAnswer.the-variants.{Refused as NoFrame};
 ghost use Rattle.connection.specs.declared.AllocateAnswer.the-variants.{Refused as NoChannel};
 ghost use Rattle.connection.specs.declared.TickAnswer.the-variants.{Refused as NotTicked};
@@ -41,11 +40,12 @@ ghost use Rattle.connection_model.specs.Connection.{sendCloseTo};
 ghost use Rattle.connection.specs.Promises as C;
 ghost use Rattle.engine.specs.Sending.{Drains, GoesOut, outgoingFrom, ordered, errorIf};
 ghost use Rattle.engine.specs.Reading.{Answers, Took, Taken, answersClose};
-ghost use Rattle.endpoint.specs.Answers.{answerSays, roleSays, sentSays, deallocateSays};
+ghost use Rattle.endpoint.specs.Answers.{answerSays, roleSays, sentSays};
 ghost use Rattle.engine_model.specs.Engine as M;
 ghost use Rattle.engine_model.specs.Engine.{isRunning, isStopped, outcomeOf, phaseAnswered, incoming, sendFault, readFault, closedBy, isClose, phaseRead, outgoing, closedWith, cutShort, notDelivered, endOfInput, sendHeader, receiveHeader, sendOpen};
 ghost use Rattle.engine.specs.declared.Running.the-variants.{Refused as NotRun};
-ghost use Rattle.engine.specs.Answers.{phaseSays, outcomeSays, errorSays, goesOn, replySays, Bare, openingSays, sentCount, tickCount};
+ghost use Rattle.engine.specs.declared.DeallocateAnswer.the-variants.{Refused as NotFreed};
+ghost use Rattle.engine.specs.Answers.{phaseSays, outcomeSays, errorSays, goesOn, replySays, Bare, openingSays, freedSays, sentCount, tickCount};
 ghost use Rattle.engine.specs.Promises.{Does, Makes, Settles, Tells, Fails, Ends, Handled, consumedFor, lacksBytes, closeOf, awaitedBy, LeadsTo, notClosed, endable};
 
 // How an engine ends.
@@ -100,9 +100,15 @@ pub struct OnAllocate {
     pub engine: ConnectionEngine,
 }
 
+// The handle of a channel that was given back, or the refusal.
+pub enum DeallocateAnswer {
+    Freed(u32),
+    Refused(u8),
+}
+
 pub struct OnDeallocate {
     pub running: Running,
-    pub answer: Held,
+    pub answer: DeallocateAnswer,
     pub engine: ConnectionEngine,
 }
 
@@ -788,29 +794,29 @@ impl ConnectionEngine {
 
     // Gives a session's channel back.
     pub fn on_deallocate(self, channel: u16) -> OnDeallocate
-        ensures { λ r. ⌜ Does (M.deallocate channel) self (replySays (r .running) 0 0 (some (deallocateSays (r .answer)))) [] (r .engine) × Bare (r .running) 0 0 (λ k. r .answer ≡ Nothing) ⌝ }
+        ensures { λ r. ⌜ Does (M.deallocate channel) self (replySays (r .running) 0 0 (some (freedSays (r .answer)))) [] (r .engine) × Bare (r .running) 0 0 (λ k. r .answer ≡ NotFreed k) ⌝ }
     {
         if self.is_ending() {
             return OnDeallocate {
                 running: Running::Refused(20),
-                answer: Held::Nothing,
+                answer: DeallocateAnswer::Refused(20),
                 engine: self,
             };
         }
         let connection = self.connection;
         let freed = connection.deallocate_session(channel);
-        let answer = freed.answer;
-        let Held::Handle(_) = answer else {
+        let held = freed.answer;
+        let Held::Handle(handle) = held else {
             return OnDeallocate {
                 running: Running::Refused(26),
-                answer,
+                answer: DeallocateAnswer::Refused(26),
                 engine: self,
             };
         };
         let engine = settle(freed.connection);
         OnDeallocate {
             running: engine.running(),
-            answer,
+            answer: DeallocateAnswer::Freed(handle),
             engine,
         }
     }

@@ -15,9 +15,6 @@ use Rattle.octets.specs.declared.Written.the-variants.{Bytes, Refused as NotWri
 use Rattle.octets.proofs.Written.{the-type as written-type}
 use Rattle.layout.specs.Layout.{held}
 use Rattle.channels.specs.Numbers.{one}
-use Rattle.channels.specs.declared.Held.{Held}
-use Rattle.channels.specs.declared.Held.the-variants.{Handle, Nothing}
-use Rattle.channels.proofs.Held.{the-type as held-type}
 use Rattle.frame_encoder.specs.declared.IdleTimeOut.the-variants.{Never, Millis}
 use Rattle.frame_encoder.specs.Answers.{idleSaid}
 use Rattle.connection.specs.View.{headerSays, allocateSays, tickSays}
@@ -29,13 +26,15 @@ use Rattle.connection.specs.declared.AllocateAnswer.the-variants.{Channel, Refu
 use Rattle.connection.specs.declared.TickAnswer.{TickAnswer}
 use Rattle.connection.specs.declared.TickAnswer.the-variants.{Wrote, Stop as Idle, Refused as NotTicked}
 use Rattle.connection.proofs.TickAnswer.{the-type as tick-type}
-use Rattle.endpoint.specs.Answers.{answerSays, sentSays, deallocateSays}
+use Rattle.endpoint.specs.Answers.{answerSays, sentSays}
 use Rattle.endpoint.specs.declared.FrameAnswer.{FrameAnswer}
 use Rattle.endpoint.specs.declared.FrameAnswer.the-variants.{NothingToDo, Opened, Closed, Forward, Began, Refused as NoFrame}
 use Rattle.endpoint.proofs.FrameAnswer.{the-type as frame-type}
+use Rattle.engine.specs.declared.DeallocateAnswer.{DeallocateAnswer}
+use Rattle.engine.specs.declared.DeallocateAnswer.the-variants.{Freed, Refused as NotFreed}
 use Rattle.engine.specs.declared.Running.{Running}
 use Rattle.engine.specs.declared.Running.the-variants.{Continue, Refused}
-use Rattle.engine.specs.Answers.{replySays, openingSays, sentCount, tickCount}
+use Rattle.engine.specs.Answers.{replySays, openingSays, freedSays, sentCount, tickCount}
 use Rattle.hisproat.specs.declared.answers.Inner as I
 use Rattle.hisproat.specs.declared.answers.Done.{Done}
 use Rattle.hisproat.specs.Answers.{flagged, Inner, inner, innerOf}
@@ -92,12 +91,11 @@ module _ (r : I.Inner) where
   pub no-channel-inner : (a : AllocateAnswer) (k : ℕ) → a ≡ NoChannel k → innerSays r ≡ inner 1 k 0 0 0 0 → innerSays r ≡ innerOf (some (allocateSays a))
   no-channel-inner a k e p = p ∙ ap (λ x. innerOf (some (allocateSays x))) (sym e)
 
-  pub freed-inner : (a : Held) (h : ℕ) → a ≡ Handle h → innerSays r ≡ inner 12 0 0 h 0 0 → innerSays r ≡ innerOf (some (deallocateSays a))
-  freed-inner a h e p = p ∙ ap (λ x. innerOf (some (deallocateSays x))) (sym e)
+  pub freed-inner : (a : DeallocateAnswer) (h : ℕ) → a ≡ Freed h → innerSays r ≡ inner 12 0 0 h 0 0 → innerSays r ≡ innerOf (some (freedSays a))
+  freed-inner a h e p = p ∙ ap (λ x. innerOf (some (freedSays x))) (sym e)
 
-  pub unfreed-inner : (a : Held) → OneOf (1 ∷ []) (tagOf held-type a) → innerSays r ≡ inner 1 26 0 0 0 0 → innerSays r ≡ innerOf (some (deallocateSays a))
-  unfreed-inner (Handle h) o p = absurd (miss (1 ∷ []) 0 tt o)
-  unfreed-inner Nothing o p = p
+  pub unfreed-inner : (a : DeallocateAnswer) (k : ℕ) → a ≡ NotFreed k → innerSays r ≡ inner 1 k 0 0 0 0 → innerSays r ≡ innerOf (some (freedSays a))
+  unfreed-inner a k e p = p ∙ ap (λ x. innerOf (some (freedSays x))) (sym e)
 
   pub nothing-inner : (a : FrameAnswer) → OneOf (0 ∷ []) (tagOf frame-type a) → innerSays r ≡ inner 6 0 0 0 0 0 → innerSays r ≡ innerOf (some (answerSays a))
   nothing-inner (NothingToDo n) o p = p

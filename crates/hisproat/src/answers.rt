@@ -1,12 +1,12 @@
 // What came of an event, in numbers, and how it is laid into the lent answer.
 use crate::ANSWER_SIZE;
-use channels::Held;
 use connection::AllocateAnswer;
 use connection::HeaderAnswer;
 use connection::TickAnswer;
 use endpoint::FrameAnswer;
 use endpoint::Role;
 use engine::ConnectionEngine;
+use engine::DeallocateAnswer;
 use engine::Running;
 use octets::Written;
 use octets::put_number;
@@ -15,8 +15,8 @@ ghost use mathlib.Core.List.{_++_};
 ghost use mathlib.Core.Option.{none, some};
 ghost use Rattle.octets.specs.Octets.{bytesOf, put};
 ghost use Rattle.connection.specs.View.{headerSays, allocateSays, tickSays};
-ghost use Rattle.endpoint.specs.Answers.{roleSays, answerSays, sentSays, deallocateSays};
-ghost use Rattle.engine.specs.Answers.{replySays, openingSays, sentCount, tickCount};
+ghost use Rattle.endpoint.specs.Answers.{roleSays, answerSays, sentSays};
+ghost use Rattle.engine.specs.Answers.{replySays, openingSays, freedSays, sentCount, tickCount};
 ghost use Rattle.hisproat.specs.Answers.{inner, innerOf, innerBytes};
 ghost use Rattle.channels.specs.Numbers.{one};
 ghost use Rattle.hisproat.specs.Promises.{innerSays, HeaderRuns, Amounts, Lays, Finishes};
@@ -131,12 +131,12 @@ fn allocate_inner(answer: AllocateAnswer) -> Inner
     }
 }
 
-fn deallocate_inner(answer: Held) -> Inner
-    ensures { λ r. ⌜ innerSays r ≡ innerOf (some (deallocateSays answer)) ⌝ }
+fn deallocate_inner(answer: DeallocateAnswer) -> Inner
+    ensures { λ r. ⌜ innerSays r ≡ innerOf (some (freedSays answer)) ⌝ }
 {
     match answer {
-        Held::Handle(handle) => numbered(KIND_FREED, handle),
-        Held::Nothing => plain(KIND_REFUSED, 26),
+        DeallocateAnswer::Freed(handle) => numbered(KIND_FREED, handle),
+        DeallocateAnswer::Refused(k) => plain(KIND_REFUSED, k),
     }
 }
 
@@ -263,8 +263,8 @@ pub fn allocated(running: Running, answer: AllocateAnswer) -> Done
     }
 }
 
-pub fn deallocated(running: Running, answer: Held) -> Done
-    ensures { λ r. ⌜ Amounts r (some (deallocateSays answer)) (replySays running 0 0 (some (deallocateSays answer))) ⌝ }
+pub fn deallocated(running: Running, answer: DeallocateAnswer) -> Done
+    ensures { λ r. ⌜ Amounts r (some (freedSays answer)) (replySays running 0 0 (some (freedSays answer))) ⌝ }
 {
     Done {
         running,

@@ -21,8 +21,8 @@ wide-requires c κs = search needs
 on-deallocate-requires : tie.Need-on-deallocate-requires Inv-loop μ-loop
 on-deallocate-requires c κs = search needs
 
-held-requires : tie.Need-held-requires Inv-loop μ-loop
-held-requires c κs = search needs
+freed-requires : tie.Need-freed-requires Inv-loop μ-loop
+freed-requires c κs = search needs
 
 plus-requires : tie.Need-plus-requires Inv-loop μ-loop
 plus-requires c κs = search needs
@@ -66,7 +66,7 @@ pairs-spec =
     loop-holds
     wide-requires
     on-deallocate-requires
-    held-requires
+    freed-requires
     plus-requires
     on-allocate-requires
     channel-of-requires

@@ -15,11 +15,11 @@ returns c = search (deallocate-20, needs)
 deallocate-session-requires : tie.Need-deallocate-session-requires
 deallocate-session-requires c κs = search needs
 
+enum-known-held : tie.Need-enum-known-held
+enum-known-held c = search needs
+
 enum-told : tie.Need-enum-told
 enum-told c = search needs
-
-enum-told-2 : tie.Need-enum-told-2
-enum-told-2 c = search needs
 
 returns-2 : tie.Need-returns-2
 returns-2 c = search (deallocate-refused, needs)
@@ -40,8 +40,8 @@ on-deallocate-spec =
     is-ending-requires
     returns
     deallocate-session-requires
+    enum-known-held
     enum-told
-    enum-told-2
     returns-2
     settle-requires
     running-requires

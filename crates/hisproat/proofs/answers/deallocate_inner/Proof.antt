@@ -11,8 +11,8 @@ enum-known-answer c = search needs
 numbered-requires : tie.Need-numbered-requires
 numbered-requires c κs = search needs
 
-enum-told : tie.Need-enum-told
-enum-told c = search needs
+enum-known-answer-2 : tie.Need-enum-known-answer-2
+enum-known-answer-2 c = search needs
 
 plain-requires : tie.Need-plain-requires
 plain-requires c κs = search needs
@@ -26,4 +26,4 @@ returns-2 c = search (unfreed-inner, needs)
 pub deallocate-inner-spec : {M : Type 1} → statement M
 deallocate-inner-spec =
     tie.close
-    (tie.spec enum-known-answer numbered-requires enum-told plain-requires returns returns-2)
+    (tie.spec enum-known-answer numbered-requires enum-known-answer-2 plain-requires returns returns-2)
