@@ -265,7 +265,7 @@ session-read-back highest s r o e low after =
 pub session-passes : (highest peer limit : ℕ) (s out bytes : List ℕ) → Octets s → writeSession highest s limit out ≡ accept bytes → channelOf s ≤ peer → Passes limit peer bytes
 unfolding writeSession limited
 session-passes highest peer limit s out bytes o e h =
-    let a = require-was 9 (roomFor (length s) out) _ bytes e in
+    let a = require-was 9 (roomFor 0 out) _ bytes e in
     let b = then-was (sessionFrame highest s) _ bytes (a .1) in
     let r : Frame × Performative = b .0 in
     let c = require-was 27 (leb (length (sessionBytes s r)) limit && leb (length (sessionBytes s r)) 16384) _ bytes (b .2) in

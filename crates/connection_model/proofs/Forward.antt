@@ -101,7 +101,7 @@ module _ (x : State) (r : ℕ) (tk : Map) (w w′ : ℕ) (m m′ : Option ℕ) (
   same-verdict (sendCloseTo e out) =
       require-same 9 (roomFor 0 out) _ _ (λ t. require-same 8 (closeOk e) _ _ (λ t′.
       then-known _ _ (going e) (λ y u. same-limited _ (frameBytes 0 (closeBody e)) (leb→le _ _ u))))
-  same-verdict (sendSessionFrame s out) = require-same 9 (roomFor (length s) out) _ _ (λ t. then-same (sessionFrame (S .channelMax) s) _ _ (same-sent s))
+  same-verdict (sendSessionFrame s out) = require-same 9 (roomFor 0 out) _ _ (λ t. then-same (sessionFrame (S .channelMax) s) _ _ (same-sent s))
   same-verdict (allocate h) = require-same 22 (not (isOneOf stopped x)) _ _ (λ t. ap (given h) (list (unstopped x t)))
   same-verdict (deallocate ch) = refl
   same-verdict (tick out) = refl

@@ -27,15 +27,15 @@ use Rattle.connection_model.proofs.ProbeFrames.{framed, anOpen, aClose,
 -- ---- the output that is lent to them
 
 pub space : List ℕ
-space = replicate 49152 0
+space = replicate 16384 0
 
 pub space-slice : isSlice space ≡ true
 unfolding space
-space-slice = slice-replicate 49152 (omega arith)
+space-slice = slice-replicate 16384 (omega arith)
 
-space-room : (n : ℕ) → n ≤ 16384 → roomFor n space ≡ true
+space-room : roomFor 0 space ≡ true
 unfolding space
-space-room n h = room-yes n (replicate 49152 0) (omega (arith, length-replicate {A = ℕ} 49152 0))
+space-room = room-yes 0 (replicate 16384 0) (omega (arith, length-replicate {A = ℕ} 16384 0))
 
 -- ---- what a refusal tells
 
@@ -109,19 +109,19 @@ frame-valid ch b p h = both (isSlice (frameBytes ch b)) true (slice-frame ch b p
 
 module _ (role : Role) (S : Settings) (c : Connection) (low : 512 ≤ c .readingLimit) where
   pub sendHeader-told : refuses 20 (decide role S c (sendHeaderTo space)) ≡ bars sendHeader (c .state)
-  sendHeader-told = ap (refuses 20) (require-on 9 (roomFor 0 space) _ (space-room 0 (omega arith))) ∙ moves-told sendHeader (c .state) _ (λ y. refl)
+  sendHeader-told = ap (refuses 20) (require-on 9 (roomFor 0 space) _ space-room) ∙ moves-told sendHeader (c .state) _ (λ y. refl)
 
   pub receiveHeader-told : refuses 20 (decide role S c (receiveHeaderFrom amqp)) ≡ bars receiveHeader (c .state)
   receiveHeader-told = ap (refuses 20) (then-accept (received amqp) _ amqp100 amqp-received) ∙ moves-told receiveHeader (c .state) _ (λ y. refl)
 
   pub sendOpen-told : refuses 20 (decide role S c (sendOpenTo space)) ≡ bars sendOpen (c .state)
   unfolding limited
-  sendOpen-told = ap (refuses 20) (require-on 9 (roomFor 0 space) _ (space-room 0 (omega arith))) ∙ moves-told sendOpen (c .state) _ (λ y. writing-told _ _ (go y))
+  sendOpen-told = ap (refuses 20) (require-on 9 (roomFor 0 space) _ space-room) ∙ moves-told sendOpen (c .state) _ (λ y. writing-told _ _ (go y))
 
   pub sendClose-told : refuses 20 (decide role S c (sendCloseTo none space)) ≡ bars sendClose (c .state)
   unfolding limited
   sendClose-told =
-      ap (refuses 20) (require-on 9 (roomFor 0 space) _ (space-room 0 (omega arith)) ∙ require-on 8 true _ refl)
+      ap (refuses 20) (require-on 9 (roomFor 0 space) _ space-room ∙ require-on 8 true _ refl)
       ∙ moves-told sendClose (c .state) _ (λ y. writing-told _ _ (go y))
 
   pub readOpen-told : refuses 20 (decide role S c (receiveFrame (frameBytes 0 anOpen) 0)) ≡ cond (is Discarding (c .state)) false (bars readOpen (c .state))
@@ -187,7 +187,7 @@ module _ (role : Role) (S : Settings) (c : Connection) (sends : isOneOf sending 
       let t : List ℕ = replicate (n - 15) 0 in
       let k : length t ≡ n - 15 = length-replicate {A = ℕ} (n - 15) 0 in
       let l : length (transferOf n) ≡ n = transfer-length n low in
-      require-on 9 (roomFor (length (transferOf n)) space) _ (space-room (length (transferOf n)) (omega arith))
+      require-on 9 (roomFor 0 space) _ space-room
       ∙ then-accept _ (sessionSent role c (transferOf n)) _ (sent-whole 0 (aTransfer t) (omega arith) (omega arith) (S .channelMax) transferred (transfer-session (S .channelMax) t))
       ∙ require-on 20 (isOneOf sending (c .state)) _ sends
       ∙ then-accept _ _ stay (untied role (c .taken 0))

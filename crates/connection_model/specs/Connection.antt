@@ -228,7 +228,7 @@ decide role S c (sendCloseTo e out) =
     andThen (limited (c .writingLimit) (frameBytes 0 (closeBody e))) (λ bytes.
     writes bytes (go x)))))
 decide role S c (sendSessionFrame s out) =
-    require 9 (roomFor (length s) out) (λ _.
+    require 9 (roomFor 0 out) (λ _.
     andThen (sessionFrame (S .channelMax) s) (sessionSent role c s))
 decide role S c (allocate h) = require 22 (not (isOneOf stopped (c .state))) (λ _. given h (c .handOut))
 decide role S c (deallocate ch) = released ch (c .taken ch)

@@ -263,48 +263,44 @@ module _ (self : Endpoint) (x : State) (s out : List ℕ) where
   rule = decide (roleOf self) (settingsOf self) (viewAs x self) (sendSessionFrame s out)
 
   pub send-small : (r : SessionSent) → length out < 16384 → (r .answer ≡ NotWritten 9) × (r .endpoint ≡ self) → Sends rule self (sentSays (r .answer)) (r .endpoint) out out
-  send-small r h n = sends-not rule self r 9 out (require-off 9 _ _ (room-no (length s) out (omega arith))) n
+  send-small r h n = sends-not rule self r 9 out (require-off 9 _ _ (room-no 0 out (omega arith))) n
 
-  module _ (most : 16384 ≤ length out) where
-    pub send-no-room : (r : SessionSent) → (length out - 16384) / 2 < length s → (r .answer ≡ NotWritten 9) × (r .endpoint ≡ self) → Sends rule self (sentSays (r .answer)) (r .endpoint) out out
-    send-no-room r h n = sends-not rule self r 9 out (require-off 9 _ _ (room-no (length s) out (omega arith))) n
+  module _ (room : 16384 ≤ length out) (highest : ℕ) (m : highest ≡ settingsOf self .channelMax) (f : F.Frame) (e : frameSays f ≡ sessionAnswer highest s) where
+    roomy : roomFor 0 out ≡ true
+    roomy = room-yes 0 out (omega arith)
 
-    module _ (room : length s ≤ (length out - 16384) / 2) (highest : ℕ) (m : highest ≡ settingsOf self .channelMax) (f : F.Frame) (e : frameSays f ≡ sessionAnswer highest s) where
-      roomy : roomFor (length s) out ≡ true
-      roomy = room-yes (length s) out (omega arith)
+    frame-first : rule ≡ andThen (sessionFrame highest s) (sessionSent (roleOf self) (viewAs x self) s)
+    frame-first = require-on 9 _ _ roomy ∙ rw m
 
-      frame-first : rule ≡ andThen (sessionFrame highest s) (sessionSent (roleOf self) (viewAs x self) s)
-      frame-first = require-on 9 _ _ roomy ∙ rw m
+    pub send-unread : (r : SessionSent) (k : ℕ) → k ≡ refusalOf f → OneOf (0 ∷ 1 ∷ []) (tagOf frame-type f) → (r .answer ≡ NotWritten k) × (r .endpoint ≡ self) → Sends rule self (sentSays (r .answer)) (r .endpoint) out out
+    send-unread r k q o n = sends-not rule self r k out (frame-first ∙ then-refuse (sessionFrame highest s) _ k (unread highest s f e k q o)) n
 
-      pub send-unread : (r : SessionSent) (k : ℕ) → k ≡ refusalOf f → OneOf (0 ∷ 1 ∷ []) (tagOf frame-type f) → (r .answer ≡ NotWritten k) × (r .endpoint ≡ self) → Sends rule self (sentSays (r .answer)) (r .endpoint) out out
-      send-unread r k q o n = sends-not rule self r k out (frame-first ∙ then-refuse (sessionFrame highest s) _ k (unread highest s f e k q o)) n
+    module _ (channel size from : ℕ) (p : P.Performative) (end : ℕ) (q : f ≡ Body channel size from p end) (sends : Bool) (g : sends ≡ isOneOf sending x) where
+      state-next : rule ≡ sessionSent (roleOf self) (viewAs x self) s (was-read highest s f e channel size from p end q .read)
+      state-next =
+          let t = was-read highest s f e channel size from p end q in
+          frame-first ∙ then-accept (sessionFrame highest s) _ (t .read) (t .is)
 
-      module _ (channel size from : ℕ) (p : P.Performative) (end : ℕ) (q : f ≡ Body channel size from p end) (sends : Bool) (g : sends ≡ isOneOf sending x) where
-        state-next : rule ≡ sessionSent (roleOf self) (viewAs x self) s (was-read highest s f e channel size from p end q .read)
-        state-next =
-            let t = was-read highest s f e channel size from p end q in
-            frame-first ∙ then-accept (sessionFrame highest s) _ (t .read) (t .is)
+      pub send-20 : (r : SessionSent) → sends ≡ false → (r .answer ≡ NotWritten 20) × (r .endpoint ≡ self) → Sends rule self (sentSays (r .answer)) (r .endpoint) out out
+      send-20 r b n = sends-not rule self r 20 out (state-next ∙ require-off 20 _ _ (sym g ∙ b)) n
 
-        pub send-20 : (r : SessionSent) → sends ≡ false → (r .answer ≡ NotWritten 20) × (r .endpoint ≡ self) → Sends rule self (sentSays (r .answer)) (r .endpoint) out out
-        send-20 r b n = sends-not rule self r 20 out (state-next ∙ require-off 20 _ _ (sym g ∙ b)) n
+      module _ (b : sends ≡ true) (t : OutgoingTie) (i : tieSays t ≡ tiedBy (roleOf self) (named p) (takenOf self channel)) where
+        pub send-low : highest < 256 → Low t
+        send-low l = record {
+          low = λ ch h z. tied-low (roleOf self) (named p) (takenOf self channel) highest (was-read highest s f e channel size from p end q .known) l ch h (sym (ap tieSays z) ∙ i);
+        }
 
-        module _ (b : sends ≡ true) (t : OutgoingTie) (i : tieSays t ≡ tiedBy (roleOf self) (named p) (takenOf self channel)) where
-          pub send-low : highest < 256 → Low t
-          send-low l = record {
-            low = λ ch h z. tied-low (roleOf self) (named p) (takenOf self channel) highest (was-read highest s f e channel size from p end q .known) l ch h (sym (ap tieSays z) ∙ i);
-          }
+        written-last : rule ≡ tiesAndWrites (tieSays t) (writeSession highest s (self .«writing_limit») out)
+        unfolding tiesAndWrites writeSession
+        written-last =
+            let r = was-read highest s f e channel size from p end q in
+            let bytes : writeSession highest s (self .«writing_limit») out ≡ limited (self .«writing_limit») (sessionBytes s (r .read)) =
+            require-on 9 _ _ roomy ∙ then-accept (sessionFrame highest s) _ (r .read) (r .is) in
+            let same : tiedBy (roleOf self) (beginsFor (eqb (r .read .1 .code) 17) (r .read .1)) (takenOf self (r .read .0 .channel)) ≡ tieSays t = rw (r .names, r .on) (sym i) in
+            state-next
+            ∙ require-on 20 _ _ (sym g ∙ b)
+            ∙ ap (λ (y : Verdict Effect). andThen y (λ e. andThen (limited (self .«writing_limit») (sessionBytes s (r .read))) (λ bytes. writes bytes e))) same
+            ∙ ap (λ (y : Verdict (List ℕ)). andThen (tieSays t) (λ e. andThen y (λ bytes. writes bytes e))) (sym bytes)
 
-          written-last : rule ≡ tiesAndWrites (tieSays t) (writeSession highest s (self .«writing_limit») out)
-          unfolding tiesAndWrites writeSession
-          written-last =
-              let r = was-read highest s f e channel size from p end q in
-              let bytes : writeSession highest s (self .«writing_limit») out ≡ limited (self .«writing_limit») (sessionBytes s (r .read)) =
-              require-on 9 _ _ roomy ∙ then-accept (sessionFrame highest s) _ (r .read) (r .is) in
-              let same : tiedBy (roleOf self) (beginsFor (eqb (r .read .1 .code) 17) (r .read .1)) (takenOf self (r .read .0 .channel)) ≡ tieSays t = rw (r .names, r .on) (sym i) in
-              state-next
-              ∙ require-on 20 _ _ (sym g ∙ b)
-              ∙ ap (λ (y : Verdict Effect). andThen y (λ e. andThen (limited (self .«writing_limit») (sessionBytes s (r .read))) (λ bytes. writes bytes e))) same
-              ∙ ap (λ (y : Verdict (List ℕ)). andThen (tieSays t) (λ e. andThen y (λ bytes. writes bytes e))) (sym bytes)
-
-          pub send-on : (a : Verdict Answer) (later : Endpoint) (o : List ℕ) → Sends (tiesAndWrites (tieSays t) (writeSession highest s (self .«writing_limit») out)) self a later out o → Sends rule self a later out o
-          send-on a later o w = subst (λ (y : Verdict Outcome). Sends y self a later out o) (sym written-last) w
+        pub send-on : (a : Verdict Answer) (later : Endpoint) (o : List ℕ) → Sends (tiesAndWrites (tieSays t) (writeSession highest s (self .«writing_limit») out)) self a later out o → Sends rule self a later out o
+        send-on a later o w = subst (λ (y : Verdict Outcome). Sends y self a later out o) (sym written-last) w

@@ -589,9 +589,6 @@ impl Endpoint {
         if out.len() < 16384 {
             return self.not_sent(9);
         }
-        if (out.len() - 16384) / 2 < frame.len() {
-            return self.not_sent(9);
-        }
         let highest = self.channel_max() as u16;
         let read = frame_decoder::session_frame(frame, highest);
         let Frame::Body {

@@ -75,7 +75,7 @@ first highest s n e = go (sessionFrame highest s) refl
 -- ---- what sending it comes to
 
 module _ (role : Role) (S : Settings) (c : K.Connection) (s : List ℕ) where
-  pub session-same : (out out′ : List ℕ) → roomFor (length s) out ≡ true → roomFor (length s) out′ ≡ true → decide role S c (sendSessionFrame s out) ≡ decide role S c (sendSessionFrame s out′)
+  pub session-same : (out out′ : List ℕ) → roomFor 0 out ≡ true → roomFor 0 out′ ≡ true → decide role S c (sendSessionFrame s out) ≡ decide role S c (sendSessionFrame s out′)
   session-same out out′ r r′ = require-on 9 _ _ r ∙ sym (require-on 9 _ _ r′)
 
   limited-is : (limit : ℕ) (bytes : List ℕ) → Holds (λ b. b ≡ bytes) (limited limit bytes)
@@ -94,7 +94,7 @@ module _ (role : Role) (S : Settings) (c : K.Connection) (s : List ℕ) where
   frame-short : (out : List ℕ) (o : K.Outcome) (n : ℕ) → Octets s → First (S .channelMax) s n → decide role S c (sendSessionFrame s out) ≡ accept o → length (o .bytes) ≤ 2 * sizeOf s
   frame-short out o n oct f e =
       let l : length (sessionBytes s (f .frame)) ≤ 2 * sizeOf s = subst (λ k. length (sessionBytes s (f .frame)) ≤ 2 * k) (f .sized) (session-short (S .channelMax) s (f .frame) oct (f .reads)) in
-      accepted {P = Short} (on-require _ 9 (roomFor (length s) out) _ (λ t. subst (Holds Short) (sym (then-accept (sessionFrame (S .channelMax) s) (sessionSent role c s) (f .frame) (f .reads))) (sent-short (f .frame) l))) e
+      accepted {P = Short} (on-require _ 9 (roomFor 0 out) _ (λ t. subst (Holds Short) (sym (then-accept (sessionFrame (S .channelMax) s) (sessionSent role c s) (f .frame) (f .reads))) (sent-short (f .frame) l))) e
 
 -- ---- trails
 
@@ -200,10 +200,9 @@ module _ (c : Connection) (n : ℕ) (w lent out : List ℕ) (d : Connection) (at
   as-lent z f r v e =
       let o = g .going z f r in
       let m = room-was (length w) lent r in
-      let dl : length (drop at w) ≡ length w - at = length-drop at w in
       let rl : length rest-out ≡ length out - written = ap length (rest-is out written) ∙ length-drop written out in
-      let here : roomFor (length (drop at w)) lent ≡ true = room-yes (length (drop at w)) lent (omega arith) in
-      let there : roomFor (length (drop at w)) rest-out ≡ true = room-yes (length (drop at w)) rest-out (omega (arith, o .way-short, g .going-at, g .going-length)) in
+      let here : roomFor 0 lent ≡ true = room-yes 0 lent (omega arith) in
+      let there : roomFor 0 rest-out ≡ true = room-yes 0 rest-out (omega (arith, o .way-short, g .going-at, g .going-length)) in
       session-same (View.roleOf c) (View.settingsOf c) (View.viewOf d) (drop at w) lent rest-out here there
       ∙ (λ i. decide (sym (g .going-keeps .keeps-role) i) (sym (g .going-keeps .keeps-settings) i) (View.viewOf d) (sendSessionFrame (sym (rest-is w at) i) rest-out))
       ∙ e

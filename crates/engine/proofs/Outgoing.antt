@@ -11,7 +11,7 @@ use lib.Dec.{leb, eqb}
 use borrow.Author.Tests.{leb-true, le-leb}
 use Rattle.octets.specs.Verdict.{Verdict, refuse, accept, require, andThen}
 use Rattle.octets.specs.Output.{roomFor, laid}
-use Rattle.octets.proofs.Laws.{require-on, require-off, then-accept, then-refuse}
+use Rattle.octets.proofs.Laws.{require-on, require-off, then-accept, then-refuse, room-yes, room-no}
 use Rattle.octets.specs.declared.Written.{Written}
 use Rattle.octets.specs.declared.Written.the-variants.{Bytes, Refused as NotWritten}
 use Rattle.performatives.specs.Performative.{Performative, performative}
@@ -147,103 +147,101 @@ module _ (e : ConnectionEngine) (s out : List ℕ) where
   refuses-so : (r : OnOutgoing) (k : ℕ) (out′ : List ℕ) → (Sound e → comesTo e (outgoing s out) ≡ refuse k) → out′ ≡ out → (r .running ≡ NotRun k) × (r .engine ≡ e) → Does (outgoing s out) e (replies r) out′ (r .engine)
   refuses-so r k out′ j o w = refuses (outgoing s out) e (r .engine) k _ out′ j (ap (λ u. replySays u 0 (r .written) (some (sentSays (r .answer)))) (w .0)) (w .1) o
 
-  module _ (lacks : Bool) (lk : lacks ≡ not (leb (16384 + 2 * length s) (length out))) where
-    pub outgoing-9 : (r : OnOutgoing) → lacks ≡ true → (r .running ≡ NotRun 9) × (r .engine ≡ e) → Does (outgoing s out) e (replies r) out (r .engine)
-    outgoing-9 r t w = refuses-so r 9 out (λ z. require-off 9 _ _ (room-is (length s) out lacks lk t)) refl w
+  pub outgoing-9 : (r : OnOutgoing) → length out < 16384 → (r .running ≡ NotRun 9) × (r .engine ≡ e) → Does (outgoing s out) e (replies r) out (r .engine)
+  outgoing-9 r t w = refuses-so r 9 out (λ z. require-off 9 _ _ (room-no 0 out (omega arith))) refl w
 
-    module _ (b : Bool) (ends : b ≡ not (isRunning (phaseSays (e .phase)))) (room : lacks ≡ false) where
-      has : roomFor (length s) out ≡ true
-      has = room-has (length s) out lacks lk room
+  module _ (b : Bool) (ends : b ≡ not (isRunning (phaseSays (e .phase)))) (room : 16384 ≤ length out) where
+    has : roomFor 0 out ≡ true
+    has = room-yes 0 out (omega arith)
 
-      pub outgoing-20 : (r : OnOutgoing) → b ≡ true → (r .running ≡ NotRun 20) × (r .engine ≡ e) → Does (outgoing s out) e (replies r) out (r .engine)
-      outgoing-20 r t w = refuses-so r 20 out (λ z. require-on 9 _ _ has ∙ require-off 20 _ _ (ending (e .phase) b ends t)) refl w
+    pub outgoing-20 : (r : OnOutgoing) → b ≡ true → (r .running ≡ NotRun 20) × (r .engine ≡ e) → Does (outgoing s out) e (replies r) out (r .engine)
+    outgoing-20 r t w = refuses-so r 20 out (λ z. require-on 9 _ _ has ∙ require-off 20 _ _ (ending (e .phase) b ends t)) refl w
 
-      module _ (run : b ≡ false) where
-        abbrev trailBy : Verdict K.Outcome → Trail
-        trailBy v = M.further (settingsOf e) (viewOf e .connection) (λ a c′. trail (roleOf e) (settingsOf e) a c′ []) v
+    module _ (run : b ≡ false) where
+      abbrev trailBy : Verdict K.Outcome → Trail
+      trailBy v = M.further (settingsOf e) (viewOf e .connection) (λ a c′. trail (roleOf e) (settingsOf e) a c′ []) v
 
-        abbrev landsBy : Verdict K.Outcome → M.Landing
-        landsBy v = M.onward (roleOf e) (settingsOf e) out (λ c bytes. landing (settled (c .state)) c bytes) (trailBy v)
+      abbrev landsBy : Verdict K.Outcome → M.Landing
+      landsBy v = M.onward (roleOf e) (settingsOf e) out (λ c bytes. landing (settled (c .state)) c bytes) (trailBy v)
 
-        abbrev goesBy : Verdict K.Outcome → Verdict Result
-        goesBy v = goes (roleOf e) (settingsOf e) out (trailBy v)
+      abbrev goesBy : Verdict K.Outcome → Verdict Result
+      goesBy v = goes (roleOf e) (settingsOf e) out (trailBy v)
 
-        -- what the event and the call inside it come to
-        comes : comesTo e (outgoing s out) ≡ andThen (sessionFrame (settingsOf e .channelMax) s) (λ x. goesBy (ruleOf (e .connection) (sendSessionFrame s out)))
-        comes = require-on 9 _ _ has ∙ require-on 20 _ _ (running-yet (e .phase) b ends run)
+      -- what the event and the call inside it come to
+      comes : comesTo e (outgoing s out) ≡ andThen (sessionFrame (settingsOf e .channelMax) s) (λ x. goesBy (ruleOf (e .connection) (sendSessionFrame s out)))
+      comes = require-on 9 _ _ has ∙ require-on 20 _ _ (running-yet (e .phase) b ends run)
 
-        calls : ruleOf (e .connection) (sendSessionFrame s out) ≡ andThen (sessionFrame (settingsOf e .channelMax) s) (sessionSent (roleOf e) (viewOf e .connection) s)
-        calls = require-on 9 _ _ has
+      calls : ruleOf (e .connection) (sendSessionFrame s out) ≡ andThen (sessionFrame (settingsOf e .channelMax) s) (sessionSent (roleOf e) (viewOf e .connection) s)
+      calls = require-on 9 _ _ has
 
-        input-by :
-            (v : Verdict (Frame × Performative)) (k : ℕ) → Refuses Low v → andThen v (sessionSent (roleOf e) (viewOf e .connection) s) ≡ refuse k → k < 20
-            → andThen v (λ x. goesBy (ruleOf (e .connection) (sendSessionFrame s out))) ≡ refuse k
-        unfolding andThen
-        input-by (refuse j) k h q l = ap refuse (ap number q)
-          where
-            number : Verdict K.Outcome → ℕ
-            number (refuse i) = i
-            number (accept o) = 0
-        input-by (accept x) k h q l = let y : 20 ≤ k = refused-with (sent-high (roleOf e) (viewOf e .connection) s x) q in absurd (omega arith)
+      input-by :
+          (v : Verdict (Frame × Performative)) (k : ℕ) → Refuses Low v → andThen v (sessionSent (roleOf e) (viewOf e .connection) s) ≡ refuse k → k < 20
+          → andThen v (λ x. goesBy (ruleOf (e .connection) (sendSessionFrame s out))) ≡ refuse k
+      unfolding andThen
+      input-by (refuse j) k h q l = ap refuse (ap number q)
+        where
+          number : Verdict K.Outcome → ℕ
+          number (refuse i) = i
+          number (accept o) = 0
+      input-by (accept x) k h q l = let y : 20 ≤ k = refused-with (sent-high (roleOf e) (viewOf e .connection) s x) q in absurd (omega arith)
 
-        -- refused because of the input
-        pub outgoing-input :
-            (r : OnOutgoing) (out′ : List ℕ) (a : Written) (d : Connection) (k : ℕ) → C.Does (sendSessionFrame s out) (e .connection) (sentSays a) out′ d → a ≡ NotWritten k → k < 20 → (r .running ≡ NotRun k) × (r .engine ≡ e)
-            → Does (outgoing s out) e (replies r) out′ (r .engine)
-        outgoing-input r out′ a d k p q l w =
-            refuses-so r k out′
-            (λ z. comes ∙ input-by (sessionFrame (settingsOf e .channelMax) s) k (session-low _ s) (sym calls ∙ inner-refused (sendSessionFrame s out) (e .connection) d k _ out′ p (ap sentSays q) z) l)
-            (p .refused k (ap sentSays q) .1) w
+      -- refused because of the input
+      pub outgoing-input :
+          (r : OnOutgoing) (out′ : List ℕ) (a : Written) (d : Connection) (k : ℕ) → C.Does (sendSessionFrame s out) (e .connection) (sentSays a) out′ d → a ≡ NotWritten k → k < 20 → (r .running ≡ NotRun k) × (r .engine ≡ e)
+          → Does (outgoing s out) e (replies r) out′ (r .engine)
+      outgoing-input r out′ a d k p q l w =
+          refuses-so r k out′
+          (λ z. comes ∙ input-by (sessionFrame (settingsOf e .channelMax) s) k (session-low _ s) (sym calls ∙ inner-refused (sendSessionFrame s out) (e .connection) d k _ out′ p (ap sentSays q) z) l)
+          (p .refused k (ap sentSays q) .1) w
 
-        past-by :
-            (v : Verdict (Frame × Performative)) (u : Verdict K.Outcome) → ((k : ℕ) → u ≡ refuse k → 20 ≤ k) → Refuses Low v → andThen v (sessionSent (roleOf e) (viewOf e .connection) s) ≡ u
-            → andThen v (λ x. goesBy u) ≡ goesBy u
-        unfolding andThen
-        past-by (refuse j) u h l q = let y : 20 ≤ j = h j (sym q) in let x : j < 20 = turned Low l in absurd (omega arith)
-        past-by (accept x) u h l q = refl
+      past-by :
+          (v : Verdict (Frame × Performative)) (u : Verdict K.Outcome) → ((k : ℕ) → u ≡ refuse k → 20 ≤ k) → Refuses Low v → andThen v (sessionSent (roleOf e) (viewOf e .connection) s) ≡ u
+          → andThen v (λ x. goesBy u) ≡ goesBy u
+      unfolding andThen
+      past-by (refuse j) u h l q = let y : 20 ≤ j = h j (sym q) in let x : j < 20 = turned Low l in absurd (omega arith)
+      past-by (accept x) u h l q = refl
 
-        past : (u : Verdict K.Outcome) → ruleOf (e .connection) (sendSessionFrame s out) ≡ u → ((k : ℕ) → u ≡ refuse k → 20 ≤ k) → comesTo e (outgoing s out) ≡ goesBy u
-        past u q h =
-            comes ∙ ap (λ y. andThen (sessionFrame (settingsOf e .channelMax) s) (λ x. goesBy y)) q
-            ∙ past-by (sessionFrame (settingsOf e .channelMax) s) u h (session-low _ s) (sym calls ∙ q)
+      past : (u : Verdict K.Outcome) → ruleOf (e .connection) (sendSessionFrame s out) ≡ u → ((k : ℕ) → u ≡ refuse k → 20 ≤ k) → comesTo e (outgoing s out) ≡ goesBy u
+      past u q h =
+          comes ∙ ap (λ y. andThen (sessionFrame (settingsOf e .channelMax) s) (λ x. goesBy y)) q
+          ∙ past-by (sessionFrame (settingsOf e .channelMax) s) u h (session-low _ s) (sym calls ∙ q)
 
-        -- refused because of the state
-        pub outgoing-failing :
-            (r : OnOutgoing) (out′ out″ : List ℕ) (a : Written) (d : Connection) (k : ℕ) (error : InnerError) (l : Landed) → C.Does (sendSessionFrame s out) (e .connection) (sentSays a) out′ d → a ≡ NotWritten k → 20 ≤ k
-            → errorSays error ≡ sendFault k → Fails (errorSays error) d 0 out′ out″ l → r ≡ outgoingFrom l k → Does (outgoing s out) e (replies r) out″ (r .engine)
-        outgoing-failing r out′ out″ a d k error l p q h er fa g =
-            let same = p .refused k (ap sentSays q) in
-            let yes : roomFor 0 out ≡ true = room-fewer (length s) out has in
-            let f′ : Fails (sendFault k) (e .connection) 0 out out″ l =
-            subst (λ x. Fails (sendFault k) (e .connection) 0 x out″ l) (same .1) (subst (λ x. Fails (sendFault k) x 0 out′ out″ l) (same .0) (subst (λ x. Fails x d 0 out′ out″ l) er fa)) in
-            gone-does (outgoing s out) e out″ l k r g
-            (lands-does (outgoing s out) e (fail (roleOf e) (settingsOf e) (sendFault k) (viewOf e .connection) [] out) 0 0 (some (refuse k)) (some (refuse k)) out″ l
-            (λ z. past (refuse k) (inner-refused (sendSessionFrame s out) (e .connection) d k _ out′ p (ap sentSays q) z) (λ j w. let x : k ≡ j = cc in omega arith))
-            (λ z. refl) (λ z. refl)
-            (λ z. f′ .fails z [] out refl (sym (laid-is [] out)) yes yes)
-            (f′ .fails-keeps))
+      -- refused because of the state
+      pub outgoing-failing :
+          (r : OnOutgoing) (out′ out″ : List ℕ) (a : Written) (d : Connection) (k : ℕ) (error : InnerError) (l : Landed) → C.Does (sendSessionFrame s out) (e .connection) (sentSays a) out′ d → a ≡ NotWritten k → 20 ≤ k
+          → errorSays error ≡ sendFault k → Fails (errorSays error) d 0 out′ out″ l → r ≡ outgoingFrom l k → Does (outgoing s out) e (replies r) out″ (r .engine)
+      outgoing-failing r out′ out″ a d k error l p q h er fa g =
+          let same = p .refused k (ap sentSays q) in
+          let f′ : Fails (sendFault k) (e .connection) 0 out out″ l =
+          subst (λ x. Fails (sendFault k) (e .connection) 0 x out″ l) (same .1) (subst (λ x. Fails (sendFault k) x 0 out′ out″ l) (same .0) (subst (λ x. Fails x d 0 out′ out″ l) er fa)) in
+          gone-does (outgoing s out) e out″ l k r g
+          (lands-does (outgoing s out) e (fail (roleOf e) (settingsOf e) (sendFault k) (viewOf e .connection) [] out) 0 0 (some (refuse k)) (some (refuse k)) out″ l
+          (λ z. past (refuse k) (inner-refused (sendSessionFrame s out) (e .connection) d k _ out′ p (ap sentSays q) z) (λ j w. let x : k ≡ j = cc in omega arith))
+          (λ z. refl) (λ z. refl)
+          (λ z. f′ .fails z [] out refl (sym (laid-is [] out)) has has)
+          (f′ .fails-keeps))
 
-        -- written
-        pub outgoing-done :
-            (out′ : List ℕ) (a : Written) (d : Connection) (n : ℕ) (e′ : ConnectionEngine) (rr : R.Running) → C.Does (sendSessionFrame s out) (e .connection) (sentSays a) out′ d → a ≡ Bytes n → Settles d e′
-            → rr ≡ goesOn (e′ .phase) → Does (outgoing s out) e (replySays rr 0 n (some (sentSays (Bytes n)))) out′ e′
-        outgoing-done out′ a d n e′ rr p q st g =
-            let R = ruleOf (e .connection) (sendSessionFrame s out) in
-            let l : Landed = record { phase = e′ .phase; written = n; connection = e′ .connection } in
-            let w : Sound e → Accepted (sendSessionFrame s out) (e .connection) d (wrote n) out′ = λ z. inner-accepted (sendSessionFrame s out) (e .connection) d (wrote n) _ out′ p (ap sentSays q) z in
-            subst (λ x. Does (outgoing s out) e (replySays x 0 n (some (accept (wrote n)))) out′ e′) (sym g)
-            (lands-does (outgoing s out) e (landsBy R) 0 0 (some (trailBy R .last)) (some (accept (wrote n))) out′ l
-            (λ z. past R refl (λ k x. let y : accept (w z .outcome) ≡ refuse k = sym (w z .accepts) ∙ x in let o : _≡_ {A = ℕ} 0 1 = cc in absurd (omega arith)))
-            (λ z. refl)
-            (λ z. ap (λ x. some (accept x)) (sym (w z .answers)) ∙ ap (λ x. some (trailBy x .last)) (sym (w z .accepts)))
-            (λ z. subst (λ x. Lands (landsBy x) out out′ l) (sym (w z .accepts)) (record {
-              lands-phase = st .settles ∙ ap (λ c. settled (c .state)) (w z .leads);
-              lands-connection = ap View.viewOf (st .settles-with) ∙ w z .leads;
-              lands-count = sym (w z .counts) ∙ ap length (sym (append-nil (w z .outcome .bytes)));
-              lands-output = w z .puts ∙ ap (λ x. laid (accept x) out) (sym (append-nil (w z .outcome .bytes)));
-            }))
-            (record {
-              keeps-role = ap View.roleOf (st .settles-with) ∙ p .same-role;
-              keeps-settings = ap View.settingsOf (st .settles-with) ∙ p .same-settings;
-              keeps-sound = λ z. subst View.Sound (sym (st .settles-with)) (p .meets z .sound);
-            }))
+      -- written
+      pub outgoing-done :
+          (out′ : List ℕ) (a : Written) (d : Connection) (n : ℕ) (e′ : ConnectionEngine) (rr : R.Running) → C.Does (sendSessionFrame s out) (e .connection) (sentSays a) out′ d → a ≡ Bytes n → Settles d e′
+          → rr ≡ goesOn (e′ .phase) → Does (outgoing s out) e (replySays rr 0 n (some (sentSays (Bytes n)))) out′ e′
+      outgoing-done out′ a d n e′ rr p q st g =
+          let R = ruleOf (e .connection) (sendSessionFrame s out) in
+          let l : Landed = record { phase = e′ .phase; written = n; connection = e′ .connection } in
+          let w : Sound e → Accepted (sendSessionFrame s out) (e .connection) d (wrote n) out′ = λ z. inner-accepted (sendSessionFrame s out) (e .connection) d (wrote n) _ out′ p (ap sentSays q) z in
+          subst (λ x. Does (outgoing s out) e (replySays x 0 n (some (accept (wrote n)))) out′ e′) (sym g)
+          (lands-does (outgoing s out) e (landsBy R) 0 0 (some (trailBy R .last)) (some (accept (wrote n))) out′ l
+          (λ z. past R refl (λ k x. let y : accept (w z .outcome) ≡ refuse k = sym (w z .accepts) ∙ x in let o : _≡_ {A = ℕ} 0 1 = cc in absurd (omega arith)))
+          (λ z. refl)
+          (λ z. ap (λ x. some (accept x)) (sym (w z .answers)) ∙ ap (λ x. some (trailBy x .last)) (sym (w z .accepts)))
+          (λ z. subst (λ x. Lands (landsBy x) out out′ l) (sym (w z .accepts)) (record {
+            lands-phase = st .settles ∙ ap (λ c. settled (c .state)) (w z .leads);
+            lands-connection = ap View.viewOf (st .settles-with) ∙ w z .leads;
+            lands-count = sym (w z .counts) ∙ ap length (sym (append-nil (w z .outcome .bytes)));
+            lands-output = w z .puts ∙ ap (λ x. laid (accept x) out) (sym (append-nil (w z .outcome .bytes)));
+          }))
+          (record {
+            keeps-role = ap View.roleOf (st .settles-with) ∙ p .same-role;
+            keeps-settings = ap View.settingsOf (st .settles-with) ∙ p .same-settings;
+            keeps-sound = λ z. subst View.Sound (sym (st .settles-with)) (p .meets z .sound);
+          }))

@@ -170,14 +170,14 @@ struct Trailed {
 // The room that an event asks of its lent output before it writes.
 const OUTPUT_ROOM: usize = Connection::MAX_FRAME_SIZE as usize;
 
-// Whether so much output is too little for so many lent bytes.
-fn lacks_room(output: usize, lent: usize) -> bool
-    ensures { λ r. ⌜ r ≡ not (leb (16384 + 2 * lent) output) ⌝ }
+// Whether so much output is too little where so many bytes wait to be sent.
+pub fn lacks_room(output: usize, waiting: usize) -> bool
+    ensures { λ r. ⌜ r ≡ not (leb (16384 + 2 * waiting) output) ⌝ }
 {
     if output < OUTPUT_ROOM {
         return true;
     }
-    if (output - OUTPUT_ROOM) / 2 < lent {
+    if (output - OUTPUT_ROOM) / 2 < waiting {
         return true;
     }
     false
@@ -870,7 +870,7 @@ impl ConnectionEngine {
     pub fn on_outgoing_session_frame(self, frame: &[u8], out: &mut [u8]) -> OnOutgoing
         ensures { λ r. ⌜ Does (outgoing (now (frame .entry)) (now (out .entry))) self (replySays (r .running) 0 (r .written) (some (sentSays (r .answer)))) (now (out .exit)) (r .engine) × Bare (r .running) 0 (r .written) (λ k. r .answer ≡ NotWritten k) ⌝ }
     {
-        if lacks_room(out.len(), frame.len()) {
+        if out.len() < OUTPUT_ROOM {
             return self.not_outgoing(9);
         }
         if self.is_ending() {

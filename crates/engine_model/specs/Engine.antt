@@ -324,7 +324,7 @@ judge role S e (deallocate ch) =
     require 20 (isRunning (e .phase)) (λ _.
     andThen (decide role S (e .connection) (M.deallocate ch)) (well S (e .connection)))
 judge role S e (outgoing s out) =
-    require 9 (roomFor (length s) out) (λ _.
+    require 9 (roomFor 0 out) (λ _.
     require 20 (isRunning (e .phase)) (λ _.
     andThen (sessionFrame (S .channelMax) s) (λ r.
     goes role S out (trail role S (wrote 0) (e .connection) (sendSessionFrame s out ∷ [])))))
@@ -355,6 +355,20 @@ lent (outgoing s out) = out
 lent (tick out) = out
 lent (endOfInput out) = out
 lent (notDelivered new out) = out
+
+-- whether its lent output has the room that an event asks for; where it has not, the event is 9
+abbrev pub hasRoom : Event → Bool
+hasRoom (sendHeader out) = roomFor 0 out
+hasRoom (receiveHeader s) = true
+hasRoom (sendOpen out) = roomFor 0 out
+hasRoom (incoming s h w out) = roomFor (length w) out
+hasRoom (closeOrder error w out) = roomFor (length w) out
+hasRoom (allocate h) = true
+hasRoom (deallocate ch) = true
+hasRoom (outgoing s out) = roomFor 0 out
+hasRoom (tick out) = roomFor 0 out
+hasRoom (endOfInput out) = roomFor 0 out
+hasRoom (notDelivered new out) = roomFor 0 out
 
 abbrev pub endedIn : Phase → Option Outcome
 endedIn running = none

@@ -33,7 +33,7 @@ use Rattle.engine_bytes.specs.declared.EngineRead.{EngineRead}
 use Rattle.engine_bytes.specs.Bytes.{engineBytes}
 use Rattle.engine_bytes.specs.Promises.{ReadsEngine}
 use Rattle.hisproat.specs.declared.answers.Done.{Done}
-use Rattle.hisproat.specs.Crossing.{Crosses, crossing, returnedBy, answerAfter}
+use Rattle.hisproat.specs.Crossing.{Crosses, crossing, returnedBy, answerAfter, fitsIn}
 use Rattle.hisproat.specs.Promises.{Amounts, stateAfter, FinishesKept, between, passedOn, sentOn}
 use Rattle.hisproat.proofs.Crossings.{fine, state-after, crosses-as, all-stand, crosses}
 
@@ -115,14 +115,14 @@ module _ (e later : ConnectionEngine) (z : Sound e) (out : List ℕ) where
 
 -- ---- what the call comes to
 
-module _ (s a : List ℕ) (read : EngineRead) (reads : ReadsEngine s read) (event : Event) (was-fine : not (read .fine) ≡ false) (room : 42 ≤ length a) where
+module _ (event : Event) (s a : List ℕ) (read : EngineRead) (reads : ReadsEngine s read) (lacks : Bool) (is : lacks ≡ not (fitsIn event a)) (not-so : lacks ≡ false) (was-fine : not (read .fine) ≡ false) where
   state-kept :
       (reply : Verdict Reply) (out : List ℕ) (later : ConnectionEngine) (kept : Bool) → kept ≡ true → Does event (read .engine) reply out later → Keeps event (read .engine) reply kept
       → s ≡ stateAfter reply s later
   state-kept (refuse k) out later kept t d keep = refl
   state-kept (accept y) out later kept t d keep =
-      reads .yes (fine s a read reads event was-fine room) .are ∙ ap (engineBytes (roleOf (read .engine)) (settingsOf (read .engine))) (sym (keep t y refl))
-      ∙ sym (state-after s a read reads event was-fine room (accept y) out later d)
+      reads .yes (fine event s a read reads lacks is not-so was-fine) .are ∙ ap (engineBytes (roleOf (read .engine)) (settingsOf (read .engine))) (sym (keep t y refl))
+      ∙ sym (state-after event s a read reads lacks is not-so was-fine (accept y) out later d)
 
   pub crosses-kept :
       (reply : Verdict Reply) (out : List ℕ) (later : ConnectionEngine) (v : Option (Verdict Answer)) (done : Done) (kept : Bool) (k : ℕ) (s′ a′ : List ℕ)
@@ -132,11 +132,11 @@ module _ (s a : List ℕ) (read : EngineRead) (reads : ReadsEngine s read) (even
     where
       go : (b : Bool) → kept ≡ b → Crosses event s a (crossing k s′ a′ out)
       go false q =
-          crosses s a read reads event was-fine room reply out later v done k s′ a′ d m
+          crosses event s a read reads lacks is not-so was-fine reply out later v done k s′ a′ d m
           (record { finishes-number = f .kept-told .tells-number; finishes-answer = f .kept-told .tells-answer; finishes-state = f .kept-not q })
       go true q =
-          all-stand s a read reads event was-fine room (crossing k s′ a′ out)
-          (crosses-as s a read reads event was-fine room reply out later k s′ a′ d
+          all-stand event s a read reads lacks is not-so was-fine (crossing k s′ a′ out)
+          (crosses-as event s a read reads lacks is not-so was-fine reply out later k s′ a′ d
           (f .kept-told .tells-number v ∙ ap returnedBy (m .amounts-reply))
           (f .kept-told .tells-answer v (m .amounts-inner) ∙ ap (λ r. answerAfter r a) (m .amounts-reply))
           (f .kept-state q ∙ state-kept reply out later kept q d keep))

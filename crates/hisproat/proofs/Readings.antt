@@ -1,7 +1,7 @@
 -- What is told of an engine, and how it is laid into the lent answer.
 -- Assumes nothing.
 use mathlib.Core.Path.{_≡_, refl, sym, _∙_, ap, ap₂, subst}
-use mathlib.Core.Bool.{true, false, cond, not}
+use mathlib.Core.Bool.{true, false, not}
 use mathlib.Core.List.{List, [], _∷_, _++_, append-assoc}
 use mathlib.Core.Option.{Option}
 use Prim.Native.Nat.{ℕ, _+_, _≤_, _<_}
@@ -31,6 +31,7 @@ use Rattle.connection.specs.Promises.{Counts}
 use Rattle.connection.specs.View as View
 use Rattle.engine_model.specs.Engine as M
 use Rattle.engine_model.specs.Engine.{Engine}
+use Rattle.engine_model.proofs.Laws.{clash}
 use Rattle.engine.specs.declared.ConnectionEngine.{ConnectionEngine}
 use Rattle.engine.specs.declared.Phase.{Phase}
 use Rattle.engine.specs.Answers.{phaseSays, roleOf, settingsOf, viewOf, Sound}
@@ -39,7 +40,7 @@ use Rattle.engine_bytes.specs.Bytes.{phaseBytes, StandFor}
 use Rattle.engine_bytes.specs.Promises.{ReadsEngine}
 use Rattle.engine_bytes.proofs.Laws.{stand-once}
 use Rattle.hisproat.specs.Answers.{statusBytes, takenBytes, tiedBytes}
-use Rattle.hisproat.specs.Crossing.{Told, Reads}
+use Rattle.hisproat.specs.Crossing.{told, Reports}
 use Rattle.hisproat.specs.Promises.{PutsChannels, PutsStatus}
 use Rattle.layout.proofs.Parts.{first, more}
 
@@ -62,31 +63,28 @@ module _ (d o : List ℕ) where
 
 -- ---- any reader
 
-abbrev pub toldOf : ℕ → List ℕ → Told
-toldOf k a = record { returned = k; answer = a }
+pub reports-short : (n : ℕ) (bytes : Role → Settings → Engine → List ℕ) (s a : List ℕ) → length a < n → Reports n bytes s a (told 9 a)
+reports-short n bytes s a h = record { short = λ t. refl; broken = λ t. clash (sym t ∙ lt-leb n (length a) h); stands = λ t. clash (sym t ∙ lt-leb n (length a) h) }
 
-module _ (bytes : Role → Settings → Engine → List ℕ) (s a : List ℕ) (read : EngineRead) (reads : ReadsEngine s read) where
-  pub reads-broken : not (read .fine) ≡ true → Reads bytes s a (toldOf 8 a)
-  reads-broken f = record { reads = λ role S e z. absurd (reads .no (not-true (read .fine) f) role S e z); unread = λ n. refl }
+module _ (n : ℕ) (bytes : Role → Settings → Engine → List ℕ) (s a : List ℕ) (read : EngineRead) (reads : ReadsEngine s read) (room : n ≤ length a) where
+  pub reports-broken : not (read .fine) ≡ true → Reports n bytes s a (told 8 a)
+  reports-broken f = record {
+    short = λ t. clash (sym (le-leb n (length a) room) ∙ t);
+    broken = λ t n. refl;
+    stands = λ t role S e z. absurd (reads .no (not-true (read .fine) f) role S e z);
+  }
 
-  module _ (was-fine : not (read .fine) ≡ false) (n : ℕ) (long : (role : Role) (S : Settings) (e : Engine) → length (bytes role S e) ≡ n) where
-    stood : StandFor s (roleOf (read .engine)) (settingsOf (read .engine)) (viewOf (read .engine))
-    stood = reads .yes (not-false (read .fine) was-fine)
-
-    pub reads-short : length a < n → Reads bytes s a (toldOf 9 a)
-    reads-short h = record {
-      reads = λ role S e z. sym (ap (λ b. cond b (toldOf 0 (put a 0 (bytes role S e))) (toldOf 9 a)) (lt-leb (length (bytes role S e)) (length a) (omega (arith, long role S e))));
-      unread = λ n. absurd (n _ _ _ stood);
-    }
-
-    pub reads-told : n ≤ length a → (a′ : List ℕ) → a′ ≡ put a 0 (bytes (roleOf (read .engine)) (settingsOf (read .engine)) (viewOf (read .engine))) → Reads bytes s a (toldOf 0 a′)
-    reads-told h a′ p = record {
-      reads = λ role S e z.
-          let o = stand-once stood z in
-          ap (toldOf 0) (p ∙ (λ i. put a 0 (bytes (o .0 i) (o .1 i) (o .2 i))))
-          ∙ sym (ap (λ b. cond b (toldOf 0 (put a 0 (bytes role S e))) (toldOf 9 a)) (le-leb (length (bytes role S e)) (length a) (omega (arith, long role S e))));
-      unread = λ n. absurd (n _ _ _ stood);
-    }
+  pub reports :
+      not (read .fine) ≡ false → (a′ : List ℕ) → a′ ≡ put a 0 (bytes (roleOf (read .engine)) (settingsOf (read .engine)) (viewOf (read .engine))) → Reports n bytes s a (told 0 a′)
+  reports f a′ p =
+      let stood : StandFor s (roleOf (read .engine)) (settingsOf (read .engine)) (viewOf (read .engine)) = reads .yes (not-false (read .fine) f) in
+      record {
+        short = λ t. clash (sym (le-leb n (length a) room) ∙ t);
+        broken = λ t n. absurd (n _ _ _ stood);
+        stands = λ t role S e z.
+            let o = stand-once stood z in
+            ap (told 0) (p ∙ (λ i. put a 0 (bytes (o .0 i) (o .1 i) (o .2 i))));
+      }
 
 -- ---- handles
 

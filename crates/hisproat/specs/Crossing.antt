@@ -1,7 +1,7 @@
 -- What a call from C comes to: the number that it returns, 0 or a refusal, and all lent bytes afterwards.
 -- Assumes nothing: these are definitions.
 use mathlib.Core.Path.{_≡_}
-use mathlib.Core.Bool.{cond, _&&_}
+use mathlib.Core.Bool.{Bool, true, false, cond, _&&_}
 use mathlib.Core.List.{List}
 use Prim.Native.Nat.{ℕ}
 use lib.Dec.{leb, eqb}
@@ -11,7 +11,7 @@ use Rattle.octets.specs.Verdict.{Verdict, refuse, accept}
 use Rattle.frame_encoder.specs.Frames.{Settings}
 use Rattle.local_open.specs.Settings.{allowed}
 use Rattle.connection_model.specs.Connection.{Role}
-use Rattle.engine_model.specs.Engine.{Engine, Event, Reply, Seen, seen, next, lent, fresh}
+use Rattle.engine_model.specs.Engine.{Engine, Event, Reply, Seen, seen, next, lent, hasRoom, fresh}
 use Rattle.engine_bytes.specs.Bytes.{engineBytes, StandFor}
 use Rattle.hisproat.specs.Answers.{replyBytes}
 
@@ -35,16 +35,19 @@ answerAfter (accept r) a = put a 0 (replyBytes r)
 abbrev pub saw : Seen → List ℕ → List ℕ → Crossing
 saw v s a = crossing (returnedBy (v .reply)) s (answerAfter (v .reply) a) (v .output)
 
--- an event: an answer of less than 42 bytes is 9, and then it is as the definition of the engine has it
-unfoldable pub crossed : Role → Settings → Engine → Event → List ℕ → Crossing
-crossed role S e event a =
-    cond (leb 42 (length a)) (saw (seen role S e event) (engineBytes role S (next role S e event)) a)
-    (crossing 9 (engineBytes role S e) a (lent event))
+-- what is lent is long enough, whatever the state: 42 bytes for the answer, and for the output what the event asks for
+unfoldable pub fitsIn : Event → List ℕ → Bool
+fitsIn event a = leb 42 (length a) && hasRoom event
 
--- bytes that stand for an engine have the event done on it; others are 8, and nothing changes
+-- an event that is done on an engine, as its definition has it
+unfoldable pub crossed : Role → Settings → Engine → Event → List ℕ → Crossing
+crossed role S e event a = saw (seen role S e event) (engineBytes role S (next role S e event)) a
+
+-- first 9, where what is lent is too short; then 8, where the state's bytes stand for no engine; nothing changes then. Else the event is done on the engine that they stand for
 pub record Crosses (event : Event) (s a : List ℕ) (c : Crossing) : Type 0 where
-  pub stands : (role : Role) (S : Settings) (e : Engine) → StandFor s role S e → c ≡ crossed role S e event a
-  pub broken : ((role : Role) (S : Settings) (e : Engine) → StandFor s role S e → ⊥) → c ≡ crossing 8 s a (lent event)
+  pub short : fitsIn event a ≡ false → c ≡ crossing 9 s a (lent event)
+  pub broken : fitsIn event a ≡ true → ((role : Role) (S : Settings) (e : Engine) → StandFor s role S e → ⊥) → c ≡ crossing 8 s a (lent event)
+  pub stands : fitsIn event a ≡ true → (role : Role) (S : Settings) (e : Engine) → StandFor s role S e → c ≡ crossed role S e event a
 
 -- ---- a new engine
 
@@ -62,10 +65,11 @@ pub record Told : Type 0 where
   pub returned : ℕ
   pub answer : List ℕ
 
-abbrev pub tells : List ℕ → List ℕ → Told
-tells bytes a = cond (leb (length bytes) (length a)) (record { returned = 0; answer = put a 0 bytes }) (record { returned = 9; answer = a })
+abbrev pub told : ℕ → List ℕ → Told
+told k a = record { returned = k; answer = a }
 
--- bytes that stand for an engine tell of it; others are 8
-pub record Reads (bytes : Role → Settings → Engine → List ℕ) (s a : List ℕ) (t : Told) : Type 0 where
-  pub reads : (role : Role) (S : Settings) (e : Engine) → StandFor s role S e → t ≡ tells (bytes role S e) a
-  pub unread : ((role : Role) (S : Settings) (e : Engine) → StandFor s role S e → ⊥) → t ≡ record { returned = 8; answer = a }
+-- first 9, where the answer has less than n bytes; then 8, where the state's bytes stand for no engine. Else they tell of the engine that they stand for
+pub record Reports (n : ℕ) (bytes : Role → Settings → Engine → List ℕ) (s a : List ℕ) (t : Told) : Type 0 where
+  pub short : leb n (length a) ≡ false → t ≡ told 9 a
+  pub broken : leb n (length a) ≡ true → ((role : Role) (S : Settings) (e : Engine) → StandFor s role S e → ⊥) → t ≡ told 8 a
+  pub stands : leb n (length a) ≡ true → (role : Role) (S : Settings) (e : Engine) → StandFor s role S e → t ≡ told 0 (put a 0 (bytes role S e))

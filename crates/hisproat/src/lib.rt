@@ -15,7 +15,10 @@ use layout::put_may;
 use local_open::Checked;
 use octets::put_number;
 ghost use mathlib.Core.Path.{_≡_};
+ghost use mathlib.Core.Bool.{not, _&&_};
 ghost use mathlib.Core.List.{[]};
+ghost use Prim.Native.Nat.{_+_, _*_};
+ghost use lib.Dec.{leb};
 ghost use mathlib.Core.Option.{none, some};
 ghost use Rattle.octets.specs.Octets.{put};
 ghost use Rattle.layout.specs.Layout.{may, held};
@@ -27,7 +30,7 @@ ghost use Rattle.connection_model.specs.Connection as M;
 ghost use Rattle.engine_model.specs.Engine.{sendHeader, receiveHeader, sendOpen, incoming, closeOrder, allocate, deallocate, outgoing, tick, endOfInput, notDelivered};
 ghost use Rattle.hisproat.specs.Answers.{flagged, settingsOf, statusBytes, takenBytes, tiedBytes};
 ghost use Rattle.hisproat.specs.Promises.{Starts, PutsChannels, PutsStatus};
-ghost use Rattle.hisproat.specs.Crossing.{crossing, Crosses, made, Reads};
+ghost use Rattle.hisproat.specs.Crossing.{crossing, Crosses, made, Reports};
 
 // How many bytes an event's answer has, what is told of an engine, and a handle.
 pub const ANSWER_SIZE: usize = 42;
@@ -36,10 +39,20 @@ pub const STATUS_SIZE: usize = 16;
 
 pub const HANDLE_SIZE: usize = 5;
 
-// The refusal of bytes that stand for no engine, and of too little room.
+// The refusal of too little room, which is judged first and from lengths alone, and of bytes that stand for no engine.
+const NO_ROOM: u8 = 9;
+
 const BROKEN: u8 = 8;
 
-const NO_ROOM: u8 = 9;
+// Whether an event's answer, or its output where so many bytes wait to be sent, is too short.
+fn lacks_room(answer: usize, output: usize, waiting: usize) -> bool
+    ensures { λ r. ⌜ r ≡ not (leb 42 answer && leb (16384 + 2 * waiting) output) ⌝ }
+{
+    if answer < ANSWER_SIZE {
+        return true;
+    }
+    engine::lacks_room(output, waiting)
+}
 
 // A flag: 0 is no, anything else is yes.
 fn is_set(flag: u8) -> bool
@@ -174,12 +187,12 @@ pub extern "C" fn hisproat_listener(
 pub extern "C" fn hisproat_send_header(state: &mut [u8], output: &mut [u8], answer: &mut [u8]) -> u8
     ensures { λ r. ⌜ Crosses (sendHeader (now (output .entry))) (now (state .entry)) (now (answer .entry)) (crossing r (now (state .exit)) (now (answer .exit)) (now (output .exit))) ⌝ }
 {
+    if lacks_room(answer.len(), output.len(), 0) {
+        return NO_ROOM;
+    }
     let read = engine_bytes::from_bytes(state);
     if !read.fine {
         return BROKEN;
-    }
-    if answer.len() < ANSWER_SIZE {
-        return NO_ROOM;
     }
     let engine = read.engine;
     let header = engine.send_header(output);
@@ -193,12 +206,12 @@ pub extern "C" fn hisproat_send_header(state: &mut [u8], output: &mut [u8], answ
 pub extern "C" fn hisproat_receive_header(state: &mut [u8], input: &[u8], answer: &mut [u8]) -> u8
     ensures { λ r. ⌜ Crosses (receiveHeader (now (input .entry))) (now (state .entry)) (now (answer .entry)) (crossing r (now (state .exit)) (now (answer .exit)) []) ⌝ }
 {
+    if answer.len() < ANSWER_SIZE {
+        return NO_ROOM;
+    }
     let read = engine_bytes::from_bytes(state);
     if !read.fine {
         return BROKEN;
-    }
-    if answer.len() < ANSWER_SIZE {
-        return NO_ROOM;
     }
     let engine = read.engine;
     let came = engine.receive_header(input);
@@ -212,12 +225,12 @@ pub extern "C" fn hisproat_receive_header(state: &mut [u8], input: &[u8], answer
 pub extern "C" fn hisproat_send_open(state: &mut [u8], output: &mut [u8], answer: &mut [u8]) -> u8
     ensures { λ r. ⌜ Crosses (sendOpen (now (output .entry))) (now (state .entry)) (now (answer .entry)) (crossing r (now (state .exit)) (now (answer .exit)) (now (output .exit))) ⌝ }
 {
+    if lacks_room(answer.len(), output.len(), 0) {
+        return NO_ROOM;
+    }
     let read = engine_bytes::from_bytes(state);
     if !read.fine {
         return BROKEN;
-    }
-    if answer.len() < ANSWER_SIZE {
-        return NO_ROOM;
     }
     let engine = read.engine;
     let opening = engine.send_open(output);
@@ -238,12 +251,12 @@ pub extern "C" fn hisproat_on_incoming(
 ) -> u8
     ensures { λ r. ⌜ Crosses (incoming (now (frame .entry)) spare (now (waiting .entry)) (now (output .entry))) (now (state .entry)) (now (answer .entry)) (crossing r (now (state .exit)) (now (answer .exit)) (now (output .exit))) ⌝ }
 {
+    if lacks_room(answer.len(), output.len(), waiting.len()) {
+        return NO_ROOM;
+    }
     let read = engine_bytes::from_bytes(state);
     if !read.fine {
         return BROKEN;
-    }
-    if answer.len() < ANSWER_SIZE {
-        return NO_ROOM;
     }
     let engine = read.engine;
     let taken = engine.on_incoming(frame, spare, waiting, output);
@@ -265,12 +278,12 @@ pub extern "C" fn hisproat_on_close(
 ) -> u8
     ensures { λ r. ⌜ Crosses (closeOrder none (now (waiting .entry)) (now (output .entry))) (now (state .entry)) (now (answer .entry)) (crossing r (now (state .exit)) (now (answer .exit)) (now (output .exit))) ⌝ }
 {
+    if lacks_room(answer.len(), output.len(), waiting.len()) {
+        return NO_ROOM;
+    }
     let read = engine_bytes::from_bytes(state);
     if !read.fine {
         return BROKEN;
-    }
-    if answer.len() < ANSWER_SIZE {
-        return NO_ROOM;
     }
     let engine = read.engine;
     let closing = engine.on_close(waiting, output);
@@ -294,12 +307,12 @@ pub extern "C" fn hisproat_on_close_with_error(
 ) -> u8
     ensures { λ r. ⌜ Crosses (closeOrder (some (errorText (now (condition .entry)) (flagged «has_description») (now (description .entry)))) (now (waiting .entry)) (now (output .entry))) (now (state .entry)) (now (answer .entry)) (crossing r (now (state .exit)) (now (answer .exit)) (now (output .exit))) ⌝ }
 {
+    if lacks_room(answer.len(), output.len(), waiting.len()) {
+        return NO_ROOM;
+    }
     let read = engine_bytes::from_bytes(state);
     if !read.fine {
         return BROKEN;
-    }
-    if answer.len() < ANSWER_SIZE {
-        return NO_ROOM;
     }
     let engine = read.engine;
     let order = engine.on_close_with_error(
@@ -321,12 +334,12 @@ pub extern "C" fn hisproat_on_close_with_error(
 pub extern "C" fn hisproat_on_allocate(state: &mut [u8], handle: u32, answer: &mut [u8]) -> u8
     ensures { λ r. ⌜ Crosses (allocate handle) (now (state .entry)) (now (answer .entry)) (crossing r (now (state .exit)) (now (answer .exit)) []) ⌝ }
 {
+    if answer.len() < ANSWER_SIZE {
+        return NO_ROOM;
+    }
     let read = engine_bytes::from_bytes(state);
     if !read.fine {
         return BROKEN;
-    }
-    if answer.len() < ANSWER_SIZE {
-        return NO_ROOM;
     }
     let engine = read.engine;
     let given = engine.on_allocate(handle);
@@ -341,12 +354,12 @@ pub extern "C" fn hisproat_on_allocate(state: &mut [u8], handle: u32, answer: &m
 pub extern "C" fn hisproat_on_deallocate(state: &mut [u8], channel: u16, answer: &mut [u8]) -> u8
     ensures { λ r. ⌜ Crosses (deallocate channel) (now (state .entry)) (now (answer .entry)) (crossing r (now (state .exit)) (now (answer .exit)) []) ⌝ }
 {
+    if answer.len() < ANSWER_SIZE {
+        return NO_ROOM;
+    }
     let read = engine_bytes::from_bytes(state);
     if !read.fine {
         return BROKEN;
-    }
-    if answer.len() < ANSWER_SIZE {
-        return NO_ROOM;
     }
     let engine = read.engine;
     let freed = engine.on_deallocate(channel);
@@ -371,12 +384,12 @@ pub extern "C" fn hisproat_on_outgoing(
 ) -> u8
     ensures { λ r. ⌜ Crosses (outgoing (now (frame .entry)) (now (output .entry))) (now (state .entry)) (now (answer .entry)) (crossing r (now (state .exit)) (now (answer .exit)) (now (output .exit))) ⌝ }
 {
+    if lacks_room(answer.len(), output.len(), 0) {
+        return NO_ROOM;
+    }
     let read = engine_bytes::from_bytes(state);
     if !read.fine {
         return BROKEN;
-    }
-    if answer.len() < ANSWER_SIZE {
-        return NO_ROOM;
     }
     let engine = read.engine;
     let connection = engine.connection();
@@ -394,12 +407,12 @@ pub extern "C" fn hisproat_on_outgoing(
 pub extern "C" fn hisproat_on_tick(state: &mut [u8], output: &mut [u8], answer: &mut [u8]) -> u8
     ensures { λ r. ⌜ Crosses (tick (now (output .entry))) (now (state .entry)) (now (answer .entry)) (crossing r (now (state .exit)) (now (answer .exit)) (now (output .exit))) ⌝ }
 {
+    if lacks_room(answer.len(), output.len(), 0) {
+        return NO_ROOM;
+    }
     let read = engine_bytes::from_bytes(state);
     if !read.fine {
         return BROKEN;
-    }
-    if answer.len() < ANSWER_SIZE {
-        return NO_ROOM;
     }
     let engine = read.engine;
     let beat = engine.on_heartbeat(output);
@@ -418,12 +431,12 @@ pub extern "C" fn hisproat_on_end_of_input(
 ) -> u8
     ensures { λ r. ⌜ Crosses (endOfInput (now (output .entry))) (now (state .entry)) (now (answer .entry)) (crossing r (now (state .exit)) (now (answer .exit)) (now (output .exit))) ⌝ }
 {
+    if lacks_room(answer.len(), output.len(), 0) {
+        return NO_ROOM;
+    }
     let read = engine_bytes::from_bytes(state);
     if !read.fine {
         return BROKEN;
-    }
-    if answer.len() < ANSWER_SIZE {
-        return NO_ROOM;
     }
     let engine = read.engine;
     let ended = engine.on_end_of_input(output);
@@ -443,12 +456,12 @@ pub extern "C" fn hisproat_on_not_delivered(
 ) -> u8
     ensures { λ r. ⌜ Crosses (notDelivered (flagged «new_session») (now (output .entry))) (now (state .entry)) (now (answer .entry)) (crossing r (now (state .exit)) (now (answer .exit)) (now (output .exit))) ⌝ }
 {
+    if lacks_room(answer.len(), output.len(), 0) {
+        return NO_ROOM;
+    }
     let read = engine_bytes::from_bytes(state);
     if !read.fine {
         return BROKEN;
-    }
-    if answer.len() < ANSWER_SIZE {
-        return NO_ROOM;
     }
     let engine = read.engine;
     let told = engine.on_not_delivered(is_set(new_session), output);
@@ -461,14 +474,14 @@ pub extern "C" fn hisproat_on_not_delivered(
 // Tells role, phase, outcome, state, limits, and how many channels are taken.
 #[no_mangle]
 pub extern "C" fn hisproat_status(state: &[u8], answer: &mut [u8]) -> u8
-    ensures { λ r. ⌜ Reads statusBytes (now (state .entry)) (now (answer .entry)) (record { returned = r; answer = now (answer .exit) }) ⌝ }
+    ensures { λ r. ⌜ Reports 16 statusBytes (now (state .entry)) (now (answer .entry)) (record { returned = r; answer = now (answer .exit) }) ⌝ }
 {
+    if answer.len() < STATUS_SIZE {
+        return NO_ROOM;
+    }
     let read = engine_bytes::from_bytes(state);
     if !read.fine {
         return BROKEN;
-    }
-    if answer.len() < STATUS_SIZE {
-        return NO_ROOM;
     }
     let engine = read.engine;
     put_status(engine, answer);
@@ -478,14 +491,14 @@ pub extern "C" fn hisproat_status(state: &[u8], answer: &mut [u8]) -> u8
 // Tells the handle of the session on an outgoing channel.
 #[no_mangle]
 pub extern "C" fn hisproat_handle_at(state: &[u8], channel: u16, answer: &mut [u8]) -> u8
-    ensures { λ r. ⌜ Reads (takenBytes channel) (now (state .entry)) (now (answer .entry)) (record { returned = r; answer = now (answer .exit) }) ⌝ }
+    ensures { λ r. ⌜ Reports 5 (takenBytes channel) (now (state .entry)) (now (answer .entry)) (record { returned = r; answer = now (answer .exit) }) ⌝ }
 {
+    if answer.len() < HANDLE_SIZE {
+        return NO_ROOM;
+    }
     let read = engine_bytes::from_bytes(state);
     if !read.fine {
         return BROKEN;
-    }
-    if answer.len() < HANDLE_SIZE {
-        return NO_ROOM;
     }
     let engine = read.engine;
     let connection = engine.connection();
@@ -496,14 +509,14 @@ pub extern "C" fn hisproat_handle_at(state: &[u8], channel: u16, answer: &mut [u
 // Tells the handle that an incoming channel is tied to.
 #[no_mangle]
 pub extern "C" fn hisproat_tied_handle(state: &[u8], channel: u16, answer: &mut [u8]) -> u8
-    ensures { λ r. ⌜ Reads (tiedBytes channel) (now (state .entry)) (now (answer .entry)) (record { returned = r; answer = now (answer .exit) }) ⌝ }
+    ensures { λ r. ⌜ Reports 5 (tiedBytes channel) (now (state .entry)) (now (answer .entry)) (record { returned = r; answer = now (answer .exit) }) ⌝ }
 {
+    if answer.len() < HANDLE_SIZE {
+        return NO_ROOM;
+    }
     let read = engine_bytes::from_bytes(state);
     if !read.fine {
         return BROKEN;
-    }
-    if answer.len() < HANDLE_SIZE {
-        return NO_ROOM;
     }
     let engine = read.engine;
     let connection = engine.connection();

@@ -10,9 +10,9 @@ use Rattle.octets.specs.Verdict.{Verdict, refuse, accept}
 use Rattle.octets.specs.declared.Written.{Written}
 use Rattle.octets.specs.declared.Written.the-variants.{Bytes, Refused}
 
--- refusal 9: the output must have 16,384 bytes, and two for each byte of the frames that are lent to the call
+-- refusal 9: the output must have 16,384 bytes, and two for each byte of the slice of session frames that wait
 unfoldable pub roomFor : ℕ → List ℕ → Bool
-roomFor lent out = leb (16384 + 2 * lent) (length out)
+roomFor waiting out = leb (16384 + 2 * waiting) (length out)
 
 -- the output afterwards: the bytes and then what stood there; on a refusal what stood there
 unfoldable pub laid : Verdict (List ℕ) → List ℕ → List ℕ

@@ -159,78 +159,73 @@ module _ (body : List ℕ) (r : C.Described) (e : describedSays r ≡ described 
 module _ (highest : ℕ) (s : List ℕ) (limit : ℕ) (out : List ℕ) where
   pub write-small : length out < 16384 → Wrote (writeSession highest s limit out) (Refused 9) out out
   unfolding writeSession
-  write-small h = wrote-no (writeSession highest s limit out) 9 out (require-off 9 _ _ (room-no (length s) out (omega arith)))
+  write-small h = wrote-no (writeSession highest s limit out) 9 out (require-off 9 _ _ (room-no 0 out (omega arith)))
 
-  module _ (some-room : 16384 ≤ length out) where
-    pub write-no-room : (length out - 16384) / 2 < length s → Wrote (writeSession highest s limit out) (Refused 9) out out
-    unfolding writeSession
-    write-no-room h = wrote-no (writeSession highest s limit out) 9 out (require-off 9 _ _ (room-no (length s) out (omega arith)))
+  module _ (room : 16384 ≤ length out) (v : F.Frame) (e : frameSays v ≡ sessionAnswer highest s) where
+    roomy : roomFor 0 out ≡ true
+    roomy = room-yes 0 out (omega arith)
 
-    module _ (room : length s ≤ (length out - 16384) / 2) (v : F.Frame) (e : frameSays v ≡ sessionAnswer highest s) where
-      roomy : roomFor (length s) out ≡ true
-      roomy = room-yes (length s) out (omega arith)
+    -- what the answer stands for
+    answer-refused : (k : ℕ) (w : Verdict (Frame × Performative)) → refuse k ≡ andThen w (λ (r : Frame × Performative). accept (sessionSaid r)) → w ≡ refuse k
+    unfolding andThen
+    answer-refused k (refuse j) q = cc
+    answer-refused k (accept r) q = let z : _≡_ {A = ℕ} 0 1 = cc in absurd (omega arith)
 
-      -- what the answer stands for
-      answer-refused : (k : ℕ) (w : Verdict (Frame × Performative)) → refuse k ≡ andThen w (λ (r : Frame × Performative). accept (sessionSaid r)) → w ≡ refuse k
-      unfolding andThen
-      answer-refused k (refuse j) q = cc
-      answer-refused k (accept r) q = let z : _≡_ {A = ℕ} 0 1 = cc in absurd (omega arith)
+    answer-accepted : (a : FrameSaid) (w : Verdict (Frame × Performative)) → accept a ≡ andThen w (λ (r : Frame × Performative). accept (sessionSaid r)) → (r : Frame × Performative) × (w ≡ accept r) × (a ≡ sessionSaid r)
+    unfolding andThen
+    answer-accepted a (refuse j) q = let z : _≡_ {A = ℕ} 0 1 = cc in absurd (omega arith)
+    answer-accepted a (accept r) q = (r, refl, cc)
 
-      answer-accepted : (a : FrameSaid) (w : Verdict (Frame × Performative)) → accept a ≡ andThen w (λ (r : Frame × Performative). accept (sessionSaid r)) → (r : Frame × Performative) × (w ≡ accept r) × (a ≡ sessionSaid r)
-      unfolding andThen
-      answer-accepted a (refuse j) q = let z : _≡_ {A = ℕ} 0 1 = cc in absurd (omega arith)
-      answer-accepted a (accept r) q = (r, refl, cc)
+    pub write-refused : (k : ℕ) → v ≡ NoFrame k → Wrote (writeSession highest s limit out) (Refused k) out out
+    unfolding writeSession sessionAnswer
+    write-refused k q =
+        let x : sessionFrame highest s ≡ refuse k = answer-refused k (sessionFrame highest s) (ap frameSays (sym q) ∙ e) in
+        wrote-no (writeSession highest s limit out) k out (require-on 9 _ _ roomy ∙ then-refuse (sessionFrame highest s) _ k x)
 
-      pub write-refused : (k : ℕ) → v ≡ NoFrame k → Wrote (writeSession highest s limit out) (Refused k) out out
-      unfolding writeSession sessionAnswer
-      write-refused k q =
-          let x : sessionFrame highest s ≡ refuse k = answer-refused k (sessionFrame highest s) (ap frameSays (sym q) ∙ e) in
-          wrote-no (writeSession highest s limit out) k out (require-on 9 _ _ roomy ∙ then-refuse (sessionFrame highest s) _ k x)
+    pub write-empty : (channel size from : ℕ) → v ≡ Empty channel size from → Wrote (writeSession highest s limit out) (Refused 6) out out
+    unfolding sessionAnswer
+    write-empty channel size from q =
+        let a = answer-accepted _ (sessionFrame highest s) (ap frameSays (sym q) ∙ e) in
+        let c : none ≡ some (said (a .0 .1)) = ap (λ (x : FrameSaid). x .content) (a .2) in
+        let z : _≡_ {A = ℕ} 0 1 = cc in
+        absurd (omega arith)
 
-      pub write-empty : (channel size from : ℕ) → v ≡ Empty channel size from → Wrote (writeSession highest s limit out) (Refused 6) out out
+    module _ (channel size from : ℕ) (p : P.Performative) (end : ℕ) (q : v ≡ Body channel size from p end) where
+      record Sent : Type 0 where
+        read : Frame × Performative
+        is : sessionFrame highest s ≡ accept read
+        on : read .0 .channel ≡ channel
+        body : bodyOf s ≡ bodyIn (read .0) s
+        holds : performative (bodyIn (read .0) s) ≡ accept (read .1)
+
+      sent : Sent
       unfolding sessionAnswer
-      write-empty channel size from q =
+      sent =
           let a = answer-accepted _ (sessionFrame highest s) (ap frameSays (sym q) ∙ e) in
-          let c : none ≡ some (said (a .0 .1)) = ap (λ (x : FrameSaid). x .content) (a .2) in
-          let z : _≡_ {A = ℕ} 0 1 = cc in
-          absurd (omega arith)
+          let w = session-was highest s (a .0) (a .1) in
+          record {
+            read = a .0;
+            is = a .1;
+            on = ap (λ (x : FrameSaid). x .channel) (sym (a .2));
+            body = frame-body anySize anyChannel s (a .0 .0) (w .0) (omega arith) (omega arith);
+            holds = sendable-was highest (bodyIn (a .0 .0) s) (a .0 .1) (w .1) .reads;
+          }
 
-      module _ (channel size from : ℕ) (p : P.Performative) (end : ℕ) (q : v ≡ Body channel size from p end) where
-        record Sent : Type 0 where
-          read : Frame × Performative
-          is : sessionFrame highest s ≡ accept read
-          on : read .0 .channel ≡ channel
-          body : bodyOf s ≡ bodyIn (read .0) s
-          holds : performative (bodyIn (read .0) s) ≡ accept (read .1)
+      module _ (b : List ℕ) (be : b ≡ bodyOf s) where
+        pub body-accepted : accepts (performative b) ≡ true
+        unfolding accepts
+        body-accepted = rw (be, sent .body, sent .holds)
 
-        sent : Sent
-        unfolding sessionAnswer
-        sent =
-            let a = answer-accepted _ (sessionFrame highest s) (ap frameSays (sym q) ∙ e) in
-            let w = session-was highest s (a .0) (a .1) in
-            record {
-              read = a .0;
-              is = a .1;
-              on = ap (λ (x : FrameSaid). x .channel) (sym (a .2));
-              body = frame-body anySize anyChannel s (a .0 .0) (w .0) (omega arith) (omega arith);
-              holds = sendable-was highest (bodyIn (a .0 .0) s) (a .0 .1) (w .1) .reads;
-            }
+        session-body : writeSession highest s limit out ≡ writeBody channel b limit
+        unfolding writeSession sessionBytes writeBody
+        session-body =
+            let t = sent in
+            let x : writeBody channel (bodyIn (t .read .0) s) limit ≡ limited limit (frameBytes channel (performativeWritten (t .read .1) ++ drop (t .read .1 .end) (bodyIn (t .read .0) s))) =
+            then-accept (performative (bodyIn (t .read .0) s)) _ (t .read .1) (t .holds) in
+            require-on 9 _ _ roomy
+            ∙ then-accept (sessionFrame highest s) _ (t .read) (t .is)
+            ∙ rw (t .on) (sym x)
+            ∙ ap (λ (l : List ℕ). writeBody channel l limit) (sym (be ∙ t .body))
 
-        module _ (b : List ℕ) (be : b ≡ bodyOf s) where
-          pub body-accepted : accepts (performative b) ≡ true
-          unfolding accepts
-          body-accepted = rw (be, sent .body, sent .holds)
-
-          session-body : writeSession highest s limit out ≡ writeBody channel b limit
-          unfolding writeSession sessionBytes writeBody
-          session-body =
-              let t = sent in
-              let x : writeBody channel (bodyIn (t .read .0) s) limit ≡ limited limit (frameBytes channel (performativeWritten (t .read .1) ++ drop (t .read .1 .end) (bodyIn (t .read .0) s))) =
-              then-accept (performative (bodyIn (t .read .0) s)) _ (t .read .1) (t .holds) in
-              require-on 9 _ _ roomy
-              ∙ then-accept (sessionFrame highest s) _ (t .read) (t .is)
-              ∙ rw (t .on) (sym x)
-              ∙ ap (λ (l : List ℕ). writeBody channel l limit) (sym (be ∙ t .body))
-
-          pub write-sent : (x : Written) (o : List ℕ) → Wrote (writeBody channel b limit) x out o → Wrote (writeSession highest s limit out) x out o
-          write-sent x o w = subst (λ (y : Verdict (List ℕ)). Wrote y x out o) (sym session-body) w
+        pub write-sent : (x : Written) (o : List ℕ) → Wrote (writeBody channel b limit) x out o → Wrote (writeSession highest s limit out) x out o
+        write-sent x o w = subst (λ (y : Verdict (List ℕ)). Wrote y x out o) (sym session-body) w

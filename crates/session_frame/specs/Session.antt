@@ -75,6 +75,6 @@ sessionBytes s r = frameBytes (r .0 .channel) (performativeWritten (r .1) ++ dro
 -- 9, then 1, 3, 5, 6, 7 of the frame, then 27
 unfoldable pub writeSession : ℕ → List ℕ → ℕ → List ℕ → Verdict (List ℕ)
 writeSession highest s limit out =
-    require 9 (roomFor (length s) out) (λ _.
+    require 9 (roomFor 0 out) (λ _.
     andThen (sessionFrame highest s) (λ r.
     limited limit (sessionBytes s r)))

@@ -518,9 +518,6 @@ pub fn write(frame: &[u8], highest: u16, limit: u32, out: &mut [u8]) -> Written
     if out.len() < 16384 {
         return Written::Refused(9);
     }
-    if (out.len() - 16384) / 2 < frame.len() {
-        return Written::Refused(9);
-    }
     match frame_decoder::session_frame(frame, highest) {
         Frame::Refused(k) => Written::Refused(k),
         Frame::Empty {

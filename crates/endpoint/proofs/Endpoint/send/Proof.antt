@@ -2,26 +2,17 @@
 -- Assumes nothing.
 use borrow.Author.Needs.{needs}
 use borrow.Author.Tests.{not-true, not-false}
-use Rattle.endpoint.proofs.Outgoing.{send-small, send-no-room, send-unread, send-20, send-low, send-on}
+use Rattle.endpoint.proofs.Outgoing.{send-small, send-unread, send-20, send-low, send-on}
 use Rattle.endpoint.proofs.Endpoint.send.Statement.{statement}
 use Rattle.endpoint.proofs.Endpoint.send.Tie as tie
 
-ruleset steps = (send-small, send-no-room, send-unread, send-20, send-low, send-on, not-true, not-false, needs)
+ruleset steps = (send-small, send-unread, send-20, send-low, send-on, not-true, not-false, needs)
 
 not-sent-requires : tie.Need-not-sent-requires
 not-sent-requires c κs = search needs
 
 returns : tie.Need-returns
 returns c = search steps
-
-sub-if2 : tie.Need-sub-if2
-sub-if2 c = search needs
-
-not-sent-requires-2 : tie.Need-not-sent-requires-2
-not-sent-requires-2 c κs = search needs
-
-returns-2 : tie.Need-returns-2
-returns-2 c = search steps
 
 channel-max-requires : tie.Need-channel-max-requires
 channel-max-requires c κs = search needs
@@ -38,20 +29,20 @@ enum-known-read c = search needs
 refusal-requires : tie.Need-refusal-requires
 refusal-requires c κs = search needs
 
+not-sent-requires-2 : tie.Need-not-sent-requires-2
+not-sent-requires-2 c κs = search needs
+
+returns-2 : tie.Need-returns-2
+returns-2 c = search steps
+
+sends-session-frames-requires : tie.Need-sends-session-frames-requires
+sends-session-frames-requires c κs = search needs
+
 not-sent-requires-3 : tie.Need-not-sent-requires-3
 not-sent-requires-3 c κs = search needs
 
 returns-3 : tie.Need-returns-3
 returns-3 c = search steps
-
-sends-session-frames-requires : tie.Need-sends-session-frames-requires
-sends-session-frames-requires c κs = search needs
-
-not-sent-requires-4 : tie.Need-not-sent-requires-4
-not-sent-requires-4 c κs = search needs
-
-returns-4 : tie.Need-returns-4
-returns-4 c = search steps
 
 outgoing-tie-requires : tie.Need-outgoing-tie-requires
 outgoing-tie-requires c κs = search needs
@@ -62,8 +53,8 @@ write-tied-requires c κs = search steps
 same-length : tie.Need-same-length
 same-length c = search needs
 
-returns-5 : tie.Need-returns-5
-returns-5 c = search steps
+returns-4 : tie.Need-returns-4
+returns-4 c = search steps
 
 pub send-spec : {M : Type 1} → statement M
 send-spec =
@@ -71,20 +62,17 @@ send-spec =
     (tie.spec
     not-sent-requires
     returns
-    sub-if2
-    not-sent-requires-2
-    returns-2
     channel-max-requires
     cast-highest
     session-frame-requires
     enum-known-read
     refusal-requires
+    not-sent-requires-2
+    returns-2
+    sends-session-frames-requires
     not-sent-requires-3
     returns-3
-    sends-session-frames-requires
-    not-sent-requires-4
-    returns-4
     outgoing-tie-requires
     write-tied-requires
     same-length
-    returns-5)
+    returns-4)

@@ -6,9 +6,6 @@ use Rattle.engine.proofs.Outgoing.{outgoing-9, outgoing-20, outgoing-in
 use Rattle.engine.proofs.ConnectionEngine.on_outgoing_session_frame.Statement.{statement}
 use Rattle.engine.proofs.ConnectionEngine.on_outgoing_session_frame.Tie as tie
 
-lacks-room-requires : tie.Need-lacks-room-requires
-lacks-room-requires c κs = search needs
-
 not-outgoing-requires : tie.Need-not-outgoing-requires
 not-outgoing-requires c κs = search needs
 
@@ -64,7 +61,7 @@ returns-4 : tie.Need-returns-4
 returns-4 c =
     let s = c .before .before .before .before .before .before .before .before in
     let i = s .before .before .before .before in (
-      outgoing-done _ _ _ _ (i .before .before .lacks-room .ensures) _ (i .is-ending .ensures) (i .before .if1 .left) (s .before .before .before .if2 .left) _ _ _ _ _ _
+      outgoing-done _ _ _ _ (i .is-ending .ensures) (search needs) (s .before .before .before .if2 .left) _ _ _ _ _ _
           (s .send-session-frame .ensures) (c .before .before .before .answer .given .1) (c .before .settle .ensures) (c .running .ensures),
       search (bare-on, needs),
     )
@@ -77,7 +74,7 @@ returns-5 c =
     let o = c .before .before .before in
     let s = o .before .before .before .before .before .before .before .before .before .before in
     let i = s .before .before .before .before in (
-      outgoing-failing _ _ _ _ (i .before .before .lacks-room .ensures) _ (i .is-ending .ensures) (i .before .if1 .left) (s .before .before .before .if2 .left) _ _ _ _ _ _
+      outgoing-failing _ _ _ _ (i .is-ending .ensures) (search needs) (s .before .before .before .if2 .left) _ _ _ _ _ _
           (o .before .before .outgoing-error .result) _
           (s .send-session-frame .ensures) (o .before .before .before .before .before .answer2 .given .1) (search needs) (o .before .before .outgoing-error .ensures) (o .on-error .ensures) (c .landed-out .ensures),
       search (bare-landed, needs),
@@ -87,7 +84,6 @@ pub on-outgoing-session-frame-spec : {M : Type 1} → statement M
 on-outgoing-session-frame-spec =
     tie.close
     (tie.spec
-    lacks-room-requires
     not-outgoing-requires
     returns
     is-ending-requires
