@@ -17,7 +17,8 @@ use Rattle.frame_decoder.specs.Frame.{Frame, frame, content, bodyIn, readFrame,
 use Rattle.frame_encoder.specs.Frames.{Settings, ErrorText, limited}
 use Rattle.session_frame.specs.Session.{sessionBytes}
 use Rattle.connection_state.specs.States.{State, Start, HeaderReceived, HeaderSent, HeaderExchange, OpenPipe, OpenClosePipe, OpenReceived, OpenSent, ClosePipe, Opened, CloseReceived, CloseSent, Discarding, End, numbered, is, isOneOf, Move, _⇒_, along, sendHeader, receiveHeader, receiveOtherHeader, sendOpen, readOpen, sendClose, sendCloseWithError, readClose, reading, sending, beforeOpen, afterOpen, silent}
-use Rattle.connection_state.proofs.States.{states, numbered-state, is-state}
+use Rattle.connection_state.proofs.States.{is-state}
+pub use Rattle.connection_state.proofs.States.{and-left, and-right, each, everywhere}
 use Rattle.connection_model.specs.Connection.{Role, dialler, listener, Connection, Call, sendHeaderTo, receiveHeaderFrom, sendOpenTo, receiveFrame, sendCloseTo, sendSessionFrame, allocate, deallocate, tick, Effect, stay, go, agree, take, give, tie, takeAndTie, Outcome, headed, tieTo, untie, passOn, newSession, begun, openRead, sessionRead, performativeRead, frameRead, closes, tiedBy, sessionSent, given, released, decide}
 
 -- ---- the parts of a rule
@@ -61,14 +62,6 @@ require-passed k false rest t = absurd t
 
 -- ---- tests
 
-pub and-left : (a b : Bool) → T (a && b) → T a
-and-left true b t = tt
-and-left false b t = t
-
-pub and-right : (a b : Bool) → T (a && b) → T b
-and-right true b t = t
-and-right false b t = absurd t
-
 -- b passes wherever a does
 pub implied : (a b : Bool) → T (cond a b true) → T a → T b
 implied true b t u = t
@@ -80,11 +73,7 @@ either false d t p q = q t
 
 -- ---- states
 
--- a test that passes at each of some states, at each row of a table
-abbrev pub each : (State → Bool) → List State → Bool
-each f [] = true
-each f (x ∷ xs) = f x && each f xs
-
+-- a test that passes at each row of a table
 abbrev pub eachRow : (State → State → Bool) → List Move → Bool
 eachRow f [] = true
 eachRow f ((a ⇒ b) ∷ moves) = f a b && eachRow f moves
@@ -95,15 +84,6 @@ one-of f (a ∷ xs) t x u =
     either (is a x) (isOneOf xs x) u
     (λ v. subst (λ y. T (f y)) (is-state a x v) (and-left (f a) (each f xs) t))
     (λ v. one-of f xs (and-right (f a) (each f xs) t) x v)
-
-nth : (f : State → Bool) → T (f End) → (xs : List State) → T (each f xs) → (n : ℕ) → T (f (getD xs n End))
-nth f e [] t n = e
-nth f e (x ∷ xs) t zero = and-left (f x) (each f xs) t
-nth f e (x ∷ xs) t (suc n) = nth f e xs (and-right (f x) (each f xs) t) n
-
--- a test that passes at each of the fourteen passes at any
-pub everywhere : (f : State → Bool) → T (f End) → T (each f states) → (x : State) → T (f x)
-everywhere f e t x = subst (λ y. T (f y)) (numbered-state x) (nth f e states t (numbered x))
 
 pub on-along : (f : State → State → Bool) (table : List Move) → T (eachRow f table) → (x : State) → Holds (λ y. T (f x y)) (along table x)
 on-along f [] t x = refused
