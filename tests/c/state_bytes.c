@@ -103,29 +103,35 @@ static int are_shared(const uint8_t *s)
     return 1;
 }
 
-static int are_limits(const uint8_t *s)
+/* The incoming channels from `first` on are not tied. */
+static int untied_from(const uint8_t *s, size_t first)
 {
-    uint64_t reading = hisproat_number(s + AT_READING_LIMIT, 4), writing = hisproat_number(s + AT_WRITING_LIMIT, 4);
-    return (reading == 512 || reading == hisproat_number(s + AT_MAX_FRAME_SIZE, 4)) && writing >= 512 && writing <= 16384;
+    return all_zero(s + AT_TIES + PLACE * first, PLACE * (256 - first));
 }
 
-/* Nothing is agreed, taken or tied before the peer's Open or Close, and nothing is tied with that Open alone. No tie is above the local channel-max. */
-static int fits_state(const uint8_t *s)
+/* Without the peer's Open everything but the state is as it was at first. */
+static int is_unopened(const uint8_t *s)
 {
     uint8_t state = s[AT_STATE];
-    int early = state <= HISPROAT_STATE_OPEN_CLOSE_PIPE || state == HISPROAT_STATE_OPEN_SENT || state == HISPROAT_STATE_CLOSE_PIPE;
-    int untied = early || state == HISPROAT_STATE_OPEN_RECEIVED;
-    size_t first_untied = untied ? 0 : (size_t)s[AT_CHANNEL_MAX] + 1;
-    if (early && (hisproat_number(s + AT_READING_LIMIT, 4) != 512 || hisproat_number(s + AT_WRITING_LIMIT, 4) != 512 || s[AT_AGREED]))
-        return 0;
-    return all_zero(s + AT_TIES + PLACE * first_untied, PLACE * (256 - first_untied));
+    int after = state == HISPROAT_STATE_OPEN_RECEIVED || state == HISPROAT_STATE_OPENED || state == HISPROAT_STATE_CLOSE_SENT;
+    return !after && hisproat_number(s + AT_READING_LIMIT, 4) == 512 && hisproat_number(s + AT_WRITING_LIMIT, 4) == 512 && untied_from(s, 0);
+}
+
+/* With it the limits are agreed, no tie is above the local channel-max, and nothing is tied before both Opens. */
+static int is_opened(const uint8_t *s)
+{
+    uint8_t state = s[AT_STATE];
+    uint64_t writing = hisproat_number(s + AT_WRITING_LIMIT, 4);
+    int before = state <= HISPROAT_STATE_OPEN_CLOSE_PIPE || state == HISPROAT_STATE_OPEN_SENT || state == HISPROAT_STATE_CLOSE_PIPE;
+    return !before && hisproat_number(s + AT_READING_LIMIT, 4) == hisproat_number(s + AT_MAX_FRAME_SIZE, 4) && writing >= 512 && writing <= 16384
+        && untied_from(s, state == HISPROAT_STATE_OPEN_RECEIVED ? 0 : (size_t)s[AT_CHANNEL_MAX] + 1);
 }
 
 static int stands(const uint8_t *s)
 {
     int phase = s[AT_PHASE] <= 2 && s[AT_OUTCOME] <= 6 && (s[AT_PHASE] != 0 || s[AT_OUTCOME] == 0);
-    return memcmp(s + AT_VERSION, "HSP1", 4) == 0 && phase && s[AT_STATE] <= 13 && s[AT_ROLE] <= 1 && has_settings(s) && are_limits(s)
-        && are_places(s + AT_TAKEN) && are_places(s + AT_TIES) && are_shared(s) && fits_state(s);
+    return memcmp(s + AT_VERSION, "HSP1", 4) == 0 && phase && s[AT_STATE] <= 13 && s[AT_ROLE] <= 1 && has_settings(s)
+        && are_places(s + AT_TAKEN) && are_places(s + AT_TIES) && are_shared(s) && (s[AT_AGREED] ? is_opened(s) : is_unopened(s));
 }
 
 /* ---- What is done with each altered state */

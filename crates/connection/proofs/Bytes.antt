@@ -4,7 +4,7 @@
 use mathlib.Core.Path.{_≡_, refl, sym, _∙_, ap, ap₂}
 use mathlib.Core.Bool.{Bool, true, false, cond}
 use mathlib.Core.List.{List, [], _∷_}
-use mathlib.Core.Option.{Option, none, some}
+use mathlib.Core.Option.{some}
 use Prim.Native.Nat.{ℕ, suc, _+_, _-_, _≤_, _<_}
 use native.Mathlib.Omega.{arith}
 use lib.ListN.{length, take, drop, getD}
@@ -14,7 +14,6 @@ use types.Run.{OneOf, miss}
 use denote.Enum.Declared.{tagOf}
 use Rattle.octets.specs.Octets.{bytesOf, put}
 use Rattle.octets.proofs.Laws.{put-past, put-over, put-more}
-use Rattle.layout.specs.Layout.{Fits}
 use Rattle.frame_encoder.specs.Frames.{Settings}
 use Rattle.connection_state.specs.States.{State, numbered, withNumber}
 use Rattle.connection_state.specs.Answers.{stateSays, numberedSays}
@@ -26,16 +25,16 @@ use Rattle.connection_state.proofs.NumberedState.{the-type}
 use Rattle.connection_model.specs.Connection as M
 use Rattle.connection_model.specs.Connection.{Role}
 use Rattle.connection_model.specs.Callers.{areBytes}
-use Rattle.connection_model.specs.Sound.{AgreedWithin, Reached}
+use Rattle.connection_model.specs.Sound.{Reached}
 use Rattle.connection_model.proofs.Valid.{both}
-use Rattle.connection_model.proofs.Apart.{settings-within}
+use Rattle.connection_model.proofs.Invariant.{shares}
 use Rattle.local_open.specs.declared.Checked.{Checked}
 use Rattle.local_open.specs.Settings.{allowed, orSmallest, smallest}
 use Rattle.local_open.proofs.Bytes.{id-within}
 use Rattle.endpoint.specs.declared.EndpointRead.{EndpointRead}
 use Rattle.endpoint.specs.Bytes.{endpointBytes, Storable}
 use Rattle.endpoint.specs.Promises.{ReadsEndpoint, WritesEndpoint}
-use Rattle.endpoint.proofs.Bytes.{length-whole, length-endpoint, endpoint-once, endpoint-octets}
+use Rattle.endpoint.proofs.Bytes.{agreed-fits, length-whole, length-endpoint, endpoint-once, endpoint-octets}
 use Rattle.connection.specs.declared.Connection.{Connection}
 use Rattle.connection.specs.declared.ConnectionRead.{ConnectionRead}
 use Rattle.connection.specs.Bytes.{connectionBytes}
@@ -154,15 +153,9 @@ number-byte : (x : State) → bytesOf 1 (numbered x) ≡ numbered x ∷ []
 unfolding bytesOf
 number-byte x = ap (λ b. b ∷ []) (omega (arith, numbered-low x))
 
-agreed-fits : (most : ℕ) → most ≤ 255 → (a : Option ℕ) → AgreedWithin most a → Fits 1 a
-agreed-fits most h none w = tt
-agreed-fits most h (some m) w = omega arith
-
 -- of a sound connection
 length-reached : (role : Role) (S : Settings) (c : M.Connection) → allowed S ≡ true → Reached S c → length (endpointBytes role S c) ≡ 3095
-length-reached role S c ok r =
-    let w = settings-within (S .containerId) (S .maxFrameSize) (S .channelMax) ok in
-    length-whole role S c (id-within S ok) (agreed-fits (S .channelMax) (w .2) (c .agreedMax) (r .agreed)) (r .shared)
+length-reached role S c ok r = length-whole role S c (id-within S ok) (agreed-fits r ok) (shares r)
 
 pub length-sound : (c : Connection) → Sound c → length (connectionBytes (roleOf c) (settingsOf c) (viewOf c)) ≡ 3096
 unfolding connectionBytes
@@ -185,5 +178,5 @@ module _ (c : Connection) (d : List ℕ) (at : ℕ) where
         let B = endpointBytes (roleOf c) (settingsOf c) (viewOf c) in
         let l : length B ≡ 3095 = length-reached (roleOf c) (settingsOf c) (viewOf c) (z .fine) (z .reached) in
         let q : o ≡ put d at (numbered x ∷ []) = p ∙ ap (λ k. put d at (bytesOf 1 k)) e ∙ ap (put d at) (number-byte x) in
-        put-more (numbered x ∷ []) B d o o′ at (at + 1) refl (omega arith) q (w .lays (z .reached .shared) x);
+        put-more (numbered x ∷ []) B d o o′ at (at + 1) refl (omega arith) q (w .lays (shares (z .reached)) x);
   }

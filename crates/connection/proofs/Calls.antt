@@ -12,7 +12,7 @@ use Rattle.octets.specs.Output.{laid}
 use Rattle.frame_encoder.specs.Frames.{Settings}
 use Rattle.connection_model.specs.Connection.{Role, Answer, Outcome, Call, decide, seen, next, lent, answered, after, written, fresh}
 use Rattle.connection_model.specs.Sound.{Reached}
-use Rattle.connection_model.proofs.Invariant.{reached-next, reached-fresh}
+use Rattle.connection_model.proofs.Invariant.{reached-next, reached-fresh, shares}
 use Rattle.endpoint.specs.Promises.{Steps, Sends, Same, Begins}
 use Rattle.endpoint.specs.declared.Endpoint.{Endpoint}
 use Rattle.endpoint.specs.declared.Role as R
@@ -111,7 +111,7 @@ makes role S r e p b =
 -- ---- a count
 
 pub counts-taken : (c : Connection) (n : ℕ) → P.Counts (c .endpoint) n → Counts c n
-counts-taken c n e = record { counts = λ z. e .counts (z .reached .shared) }
+counts-taken c n e = record { counts = λ z. e .counts (shares (z .reached)) }
 
 -- ---- a move, by what was written
 

@@ -37,6 +37,7 @@ use Rattle.channels.specs.declared.Allocated.{Allocated}
 use Rattle.channels.specs.declared.Allocated.the-variants.{Channel}
 use Rattle.connection_model.specs.Connection as M
 use Rattle.connection_model.specs.Connection.{Role, Answer, Outcome, Call, receiveHeaderFrom, receiveFrame, sendSessionFrame, allocate, deallocate, tick, says, writes, stay, go, header, otherProtocol, stop, wrote, headed, given, released, ticked, answered, written, after, frameRead}
+use Rattle.connection_model.proofs.Invariant.{shares}
 use Rattle.endpoint.specs.declared.Endpoint.{Endpoint}
 use Rattle.endpoint.specs.declared.FrameAnswer.{FrameAnswer}
 use Rattle.endpoint.specs.declared.Incoming.{Incoming}
@@ -94,8 +95,8 @@ module _ (c : Connection) where
 
   pub frees-does : (ch : ℕ) (a : Held) (e : Endpoint) → Frees (c .endpoint) ch a e → Does (deallocate ch) c (deallocateSays a) [] (holding c e)
   frees-does ch a e f =
-      does (deallocate ch) c (holding c e) (released ch (viewOf c .taken ch)) (deallocateSays a) [] (λ z. refl) (λ z. f .frees (z .reached .shared) .says)
-      (λ z. quiet-released ch (viewOf c .taken ch) .silent) (λ z. f .frees (z .reached .shared) .leaves _) (f .frees-same .same-role) (f .frees-same .same-settings)
+      does (deallocate ch) c (holding c e) (released ch (viewOf c .taken ch)) (deallocateSays a) [] (λ z. refl) (λ z. f .frees (shares (z .reached)) .says)
+      (λ z. quiet-released ch (viewOf c .taken ch) .silent) (λ z. f .frees (shares (z .reached)) .leaves _) (f .frees-same .same-role) (f .frees-same .same-settings)
       (λ k p. (ap (holding c) (f .frees-refused k p), refl))
 
   -- ---- a session's frame that goes out

@@ -14,7 +14,8 @@ use Rattle.octets.specs.Verdict.{Verdict, refuse, require, accepts}
 use Rattle.octets.specs.Octets.{bytesOf}
 use Rattle.text.specs.Utf8.{utf8}
 use Rattle.frame_encoder.specs.Frames.{Settings, frameBytes, settingsOk}
-use Rattle.connection_state.specs.States.{State, Start, HeaderReceived, HeaderSent, HeaderExchange, OpenPipe, OpenClosePipe, OpenReceived, OpenSent, ClosePipe, Opened, CloseReceived, CloseSent, Discarding, End, is, isOneOf, sendHeader, receiveHeader, sendOpen, readOpen, sendClose, readClose, reading, sending, stopped}
+use Rattle.connection_state.specs.States.{State, Start, HeaderReceived, HeaderSent, HeaderExchange, OpenPipe, OpenClosePipe, OpenReceived, OpenSent, ClosePipe, Opened, CloseReceived, CloseSent, Discarding, End, states, is, isOneOf, sendHeader, receiveHeader, sendOpen, readOpen, sendClose, readClose, reading, sending, stopped}
+use Rattle.connection_state.proofs.States.{is-state, everywhere}
 use Rattle.channels.specs.Numbers.{Map, with}
 use Rattle.connection_model.specs.Connection.{Role, Connection, connection, Call, sendHeaderTo, receiveHeaderFrom, sendOpenTo, receiveFrame, sendCloseTo, sendSessionFrame, allocate, deallocate, Answer, given, decide, answered, Seen, next, seenIn}
 use Rattle.connection_model.specs.Account.{when, limitsShow, account}
@@ -78,11 +79,6 @@ signs x =
     ∷ not (not (isOneOf stopped x))
     ∷ []
 
-states : List State
-states =
-    Start ∷ HeaderReceived ∷ HeaderSent ∷ HeaderExchange ∷ OpenPipe ∷ OpenClosePipe ∷ OpenReceived ∷ OpenSent ∷ ClosePipe ∷ Opened ∷ CloseReceived
-    ∷ CloseSent ∷ Discarding ∷ End ∷ []
-
 abbrev number : List Bool → ℕ
 number [] = 0
 number (true ∷ bs) = 1 + 2 * number bs
@@ -95,21 +91,8 @@ find n (x ∷ xs) = cond (eqb n (number (signs x))) x (find n xs)
 
 -- no two states answer the eight alike
 found : (x : State) → find (number (signs x)) states ≡ x
-unfolding find states accepts
-found Start = refl
-found HeaderReceived = refl
-found HeaderSent = refl
-found HeaderExchange = refl
-found OpenPipe = refl
-found OpenClosePipe = refl
-found OpenReceived = refl
-found OpenSent = refl
-found ClosePipe = refl
-found Opened = refl
-found CloseReceived = refl
-found CloseSent = refl
-found Discarding = refl
-found End = refl
+unfolding find accepts
+found x = is-state (find (number (signs x)) states) x (everywhere (λ y. is (find (number (signs y)) states) y) tt tt x)
 
 -- ---- a limit, by what it lets pass
 

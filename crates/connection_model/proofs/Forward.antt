@@ -21,9 +21,9 @@ use Rattle.connection_state.specs.States.{State, Opened, Discarding, is, isOneO
 use Rattle.channels.specs.Numbers.{Map, with, freedFirst}
 use Rattle.connection_model.specs.Connection.{hasError, Role, Connection, fresh, connection, Call, sendHeaderTo, receiveHeaderFrom, sendOpenTo, receiveFrame, sendCloseTo, sendSessionFrame, allocate, deallocate, tick, Effect, stay, go, agree, take, give, tie, takeAndTie, Outcome, nothingToDo, says, apply, headed, untie, passOn, begun, openRead, closeRead, sessionRead, frameRead, closes, tiedBy, sessionSent, given, decide, lent, Seen, answered, written, seen, after, next, run, seenIn}
 use Rattle.connection_model.specs.Account.{when, limitsShow, account}
-use Rattle.connection_model.proofs.Rules.{Holds, refused, holds, implied, one-of, everywhere, on-along, Legit, Lawful, lawful, lends-any}
-use Rattle.connection_model.specs.Sound.{stage, Reached}
-use Rattle.connection_model.proofs.Invariant.{reached}
+use Rattle.connection_model.proofs.Rules.{Holds, refused, holds, implied, one-of, everywhere, on-along, stage, Legit, Lawful, lawful, lends-any}
+use Rattle.connection_model.specs.Sound.{Reached}
+use Rattle.connection_model.proofs.Invariant.{early, untied-yet, reached}
 
 -- ---- equal parts make equal rules
 
@@ -226,15 +226,15 @@ module _ {S : Settings} {c d : Connection} (i : Reached S c) (j : Reached S d) (
     taken = ap (λ a. a .taken) p;
     writing = λ u. ⊎-elim
         (shown-same (limitsShow (c .state)) (limitsShow (d .state)) (c .writingLimit) (d .writingLimit) (ap limitsShow same-state) (ap (λ a. a .writingLimit) p))
-        (λ e. i .early e .writing-first ∙ sym (j .early (first-too e) .writing-first))
+        (λ e. ap (λ a. a .writingLimit) (early i e) ∙ sym (ap (λ a. a .writingLimit) (early j (first-too e))))
         (shows-or-first (c .state) u);
     list = λ u. ⊎-elim
         (shown-same (limitsShow (c .state)) (limitsShow (d .state)) (c .handOut) (d .handOut) (ap limitsShow same-state) (ap (λ a. a .handOut) p))
-        (λ e. i .early e .no-list ∙ sym (j .early (first-too e) .no-list))
+        (λ e. ap (λ a. a .handOut) (early i e) ∙ sym (ap (λ a. a .handOut) (early j (first-too e))))
         (shows-or-first (c .state) u);
     tied = λ u. ⊎-elim
         (shown-same (is Opened (c .state)) (is Opened (d .state)) (c .ties) (d .ties) (ap (is Opened) same-state) (ap (λ a. a .ties) p))
-        (λ e. i .untied e ∙ sym (j .untied (subst (λ x. stage x ≤ 1) same-state e)))
+        (λ e. untied-yet i e ∙ sym (untied-yet j (subst (λ x. stage x ≤ 1) same-state e)))
         (opened-or-before (c .state) u);
   }
 

@@ -1,25 +1,51 @@
 -- What holds of every connection that calls can lead to, by induction over the list of calls: each lawful effect keeps it.
 -- Assumes nothing.
-use mathlib.Core.Path.{_≡_, refl, sym, ap, subst}
-use mathlib.Core.Logic.{_⊎_, inl, inr, ⊎-elim}
-use mathlib.Core.Bool.{Bool, true, false, cond}
+use mathlib.Core.Path.{_≡_, refl, sym, _∙_, ap, subst}
+use mathlib.Core.Bool.{Bool, true, false, cond, _||_}
 use mathlib.Core.List.{List, [], _∷_}
 use mathlib.Core.Option.{Option, none, some}
 use Prim.Native.Nat.{ℕ, suc, _≤_, _<_}
 use native.Mathlib.Omega.{arith}
-use lib.Dec.{T, eqb, eqb→eq}
+use lib.Dec.{T, leb, eqb, eqb→eq}
+use borrow.Author.Tests.{eq-eqb, le-leb}
 use Rattle.octets.specs.Verdict.{Verdict}
 use Rattle.frame_encoder.specs.Frames.{Settings}
+use Rattle.connection_state.specs.States.{State, OpenReceived, is, isOneOf, beforeOpen, afterOpen}
+use Rattle.connection_state.proofs.States.{is-state}
 use Rattle.channels.specs.Numbers.{Map, nowhere, with, upFrom, EachOnce, Shared}
-use Rattle.connection_model.specs.Connection.{Role, Connection, fresh, Call, Effect, stay, go, agree, take, give, tie, takeAndTie, Outcome, apply, after, next, run}
-use Rattle.connection_model.specs.Sound.{stage, First, Untouched, Limits, TiedWithin, AgreedWithin, Reached}
-use Rattle.connection_model.proofs.Rules.{Holds, refused, holds, Lends, Holder, Legit, Lawful, lawful, lends-any}
+use Rattle.connection_model.specs.Connection.{Role, Connection, fresh, Call, Effect, stay, go, agree, take, give, tie, takeAndTie, Outcome, connection, apply, after, next, run}
+use Rattle.connection_model.specs.Sound.{Unopened, TiedWithin, Agreed, Reached}
+use Rattle.connection_model.proofs.Rules.{Holds, refused, holds, implied, everywhere, stage, true-is, Lends, Holder, Ties, Takes, Legit, Lawful, lawful, lends-any}
 use Rattle.channels.proofs.Numbers.{once-fresh, once-taken, shared-take, shared-give}
 
--- ---- each lawful effect keeps it
+-- ---- the two cases
 
 nothing-some : {A B : Type 0} (o : Option A) (a : A) → o ≡ none → o ≡ some a → B
 nothing-some o a p q = let z : _≡_ {A = ℕ} 0 1 = cc in absurd (omega arith)
+
+some-same : {A : Type 0} (P : A → Type 0) (a b : A) → some a ≡ some b → P a → P b
+some-same P a b e p = let q : a ≡ b = cc in subst P q p
+
+not-held : {B : Type 0} (f : Map) (n h : ℕ) → f ≡ nowhere → f n ≡ some h → B
+not-held f n h e = nothing-some (f n) h (ap (λ g. g n) e)
+
+clash : {B : Type 0} (b : Bool) → b ≡ true → b ≡ false → B
+clash b p q = absurd (subst T (sym p ∙ q) tt)
+
+module _ {S : Settings} {c : Connection} (i : Reached S c) where
+  -- without the peer's Open, or with it
+  pub either-way : {P : Type 0} → (Unopened S c → P) → ((m : ℕ) → c .agreedMax ≡ some m → Agreed S m c → P) → P
+  either-way {P} f g = go (c .agreedMax) refl
+    where
+      go : (o : Option ℕ) → c .agreedMax ≡ o → P
+      go none e = f (i .unopened e)
+      go (some m) e = g m e (i .agreed m e)
+
+  -- before the peer's Open
+  pub before-open : isOneOf beforeOpen (c .state) ≡ true → c ≡ apply S (go (c .state)) fresh
+  before-open e = either-way (λ u. u .at-first) (λ m q a. clash (isOneOf beforeOpen (c .state)) e (a .stands))
+
+-- ---- each lawful effect keeps it
 
 -- of a map with another value at k, what held of the map and holds of the value
 with-holds : {P : ℕ → ℕ → Type 0} (f : Map) (k : ℕ) (v : Option ℕ) → ((h : ℕ) → v ≡ some h → P k h) → ((n h : ℕ) → f n ≡ some h → P n h) → (n h : ℕ) → with f k v n ≡ some h → P n h
@@ -29,57 +55,95 @@ with-holds {P} f k v p i n h e = at (eqb k n) refl e
     at true q u = subst (λ m. P m h) (eqb→eq k n (subst T (sym q) tt)) (p h u)
     at false q u = i n h u
 
+module _ (S : Settings) (m : ℕ) (c : Connection) (a : Agreed S m c) where
+  -- with other numbers free and taken
+  other-numbers :
+      (l : Option (List ℕ)) (tk : Map) → Shared (some m) l tk → Agreed S m (connection (c .state) (c .readingLimit) (c .writingLimit) (c .agreedMax) l tk (c .ties))
+  other-numbers l tk s = record {
+    stands = a .stands;
+    most = a .most;
+    reading-own = a .reading-own;
+    writing-low = a .writing-low;
+    writing-high = a .writing-high;
+    shared = s;
+    tied = a .tied;
+    untied = a .untied;
+  }
+
+  -- with other ties, past OpenReceived
+  other-ties :
+      2 ≤ stage (c .state) → (ch : ℕ) (h : Option ℕ) → ch ≤ S .channelMax
+      → Agreed S m (connection (c .state) (c .readingLimit) (c .writingLimit) (c .agreedMax) (c .handOut) (c .taken) (with (c .ties) ch h))
+  other-ties u ch h le = record {
+    stands = a .stands;
+    most = a .most;
+    reading-own = a .reading-own;
+    writing-low = a .writing-low;
+    writing-high = a .writing-high;
+    shared = a .shared;
+    tied = with-holds {P = λ n k. n ≤ S .channelMax} (c .ties) ch h (λ k e. le) (a .tied);
+    untied = λ e. let q : OpenReceived ≡ c .state = is-state OpenReceived (c .state) (subst T (sym e) tt) in let z : ⊥ = omega (arith, ap stage q) in absurd z;
+  }
+
 module _ (H : ℕ → Type 0) (S : Settings) where
+  keeps-take : (ch : ℕ) (rest : List ℕ) (h : ℕ) (c : Connection) → Takes H c ch rest h → Reached S c → Reached S (apply S (take ch rest h) c)
+  keeps-take ch rest h c l i = record {
+    unopened = λ q. nothing-some _ _ (ap (λ d. d .handOut) (i .unopened q .at-first)) (l .next);
+    agreed = λ m q. let a = i .agreed m q in other-numbers S m c a _ _ (shared-take (some m) (c .handOut) (c .taken) ch rest h (l .next) (a .shared));
+  }
+
+  keeps-tie : (ch : ℕ) (h : Option ℕ) (c : Connection) → Ties S c ch h → Reached S c → Reached S (apply S (tie ch h) c)
+  keeps-tie ch h c l i = record {
+    unopened = λ q. holderless h (i .unopened q .at-first) (l .holder);
+    agreed = λ m q. other-ties S m c (i .agreed m q) (l .open-yet) ch h (l .most);
+  }
+    where
+      holderless : {B : Type 0} (o : Option ℕ) → c ≡ apply S (go (c .state)) fresh → Holder c ch o → B
+      holderless none f k = not-held (c .ties) ch (k .0) (ap (λ d. d .ties) f) (k .1)
+      holderless (some j) f k = not-held (c .taken) (k .0) j (ap (λ d. d .taken) f) (k .1)
+
   pub keeps : (e : Effect) (c : Connection) → Legit H S c e → Reached S c → Reached S (apply S e c)
   keeps stay c l i = i
   keeps (go x) c l i = record {
-    early = λ e. i .early (omega arith);
-    untied = λ e. i .untied (omega arith);
-    limits = i .limits;
-    tied = i .tied;
-    agreed = i .agreed;
-    shared = i .shared;
+    unopened = λ q. let u = i .unopened q in record { stands = l .not-after (u .stands); at-first = ap (apply S (go x)) (u .at-first) };
+    agreed = λ m q.
+        let a = i .agreed m q in
+        record {
+          stands = l .not-before (a .stands);
+          most = a .most;
+          reading-own = a .reading-own;
+          writing-low = a .writing-low;
+          writing-high = a .writing-high;
+          shared = a .shared;
+          tied = a .tied;
+          untied = λ e. clash (is OpenReceived x) e (l .not-received);
+        };
   }
-  keeps (agree x m w) c l i = record {
-    early = λ e. let z : ⊥ = omega arith in absurd z;
-    untied = λ e. i .untied (omega arith);
-    limits = record { reading-either = inr refl; writing-low = l .low; writing-high = l .high };
-    tied = i .tied;
-    agreed = l .most;
-    shared = subst (EachOnce m (upFrom 0 (suc m))) (sym (i .early (l .first) .none-taken)) (once-fresh m);
-  }
-  keeps (take ch rest h) c l i = record {
-    early = λ e. nothing-some _ _ (i .early e .no-list) (l .next);
-    untied = i .untied;
-    limits = i .limits;
-    tied = i .tied;
-    agreed = i .agreed;
-    shared = shared-take (c .agreedMax) (c .handOut) (c .taken) ch rest h (l .next) (i .shared);
-  }
+  keeps (agree x m w) c l i =
+      let f = before-open i (l .first) in
+      let no-tie : c .ties ≡ nowhere = ap (λ d. d .ties) f in
+      record {
+        unopened = λ q. nothing-some (some m) m q refl;
+        agreed = λ k q. some-same (λ j. Agreed S j (apply S (agree x m w) c)) m k q (record {
+          stands = l .opened;
+          most = l .most;
+          reading-own = refl;
+          writing-low = l .low;
+          writing-high = l .high;
+          shared = subst (EachOnce m (upFrom 0 (suc m))) (sym (ap (λ d. d .taken) f)) (once-fresh m);
+          tied = λ n h. not-held (c .ties) n h no-tie;
+          untied = λ e. no-tie;
+        });
+      }
+  keeps (take ch rest h) c l i = keeps-take ch rest h c l i
   keeps (give ch) c l i = record {
-    early = λ e. nothing-some _ _ (ap (λ f. f ch) (i .early e .none-taken)) (l .1);
-    untied = i .untied;
-    limits = i .limits;
-    tied = i .tied;
-    agreed = i .agreed;
-    shared = shared-give (c .agreedMax) (c .handOut) (c .taken) ch (l .0) (l .1) (i .shared);
+    unopened = λ q. not-held (c .taken) ch (l .0) (ap (λ d. d .taken) (i .unopened q .at-first)) (l .1);
+    agreed = λ m q. let a = i .agreed m q in other-numbers S m c a _ _ (shared-give (some m) (c .handOut) (c .taken) ch (l .0) (l .1) (a .shared));
   }
-  keeps (tie ch h) c l i = record {
-    early = λ e. let z : ⊥ = omega arith in absurd z;
-    untied = λ e. let z : ⊥ = omega arith in absurd z;
-    limits = i .limits;
-    tied = with-holds {P = λ n k. n ≤ S .channelMax} (c .ties) ch h (λ k e. l .most) (i .tied);
-    agreed = i .agreed;
-    shared = i .shared;
-  }
-  keeps (takeAndTie ch rest h at) c l i = record {
-    early = λ e. let z : ⊥ = omega arith in absurd z;
-    untied = λ e. let z : ⊥ = omega arith in absurd z;
-    limits = i .limits;
-    tied = with-holds {P = λ n k. n ≤ S .channelMax} (c .ties) at (some h) (λ k e. l .2) (i .tied);
-    agreed = i .agreed;
-    shared = shared-take (c .agreedMax) (c .handOut) (c .taken) ch rest h (l .0 .next) (i .shared);
-  }
+  keeps (tie ch h) c l i = keeps-tie ch h c l i
+  keeps (takeAndTie ch rest h at) c l i =
+      let held : with (c .taken) ch (some h) ch ≡ some h = rw (eq-eqb ch ch refl) in
+      keeps-tie at (some h) (apply S (take ch rest h) c) (record { open-yet = l .1; most = l .2; holder = (ch, held) }) (keeps-take ch rest h c (l .0) i)
 
   after-keeps : (c : Connection) {v : Verdict Outcome} → Holds (Lawful H S c) v → Reached S c → Reached S (after S v c)
   after-keeps c refused i = i
@@ -88,14 +152,7 @@ module _ (H : ℕ → Type 0) (S : Settings) where
 -- ---- every connection that calls can lead to
 
 pub reached-fresh : (S : Settings) → Reached S fresh
-reached-fresh S = record {
-  early = λ e. record { reading-first = refl; writing-first = refl; not-agreed = refl; no-list = refl; none-taken = refl; none-tied = refl };
-  untied = λ e. refl;
-  limits = record { reading-either = inl refl; writing-low = omega arith; writing-high = omega arith };
-  tied = λ n h e. nothing-some none h refl e;
-  agreed = tt;
-  shared = refl;
-}
+reached-fresh S = record { unopened = λ q. record { stands = refl; at-first = refl }; agreed = λ m q. nothing-some none m refl q }
 
 module _ (role : Role) (S : Settings) where
   pub reached-next : (c : Connection) (call : Call) → Reached S c → Reached S (next role S c call)
@@ -108,40 +165,73 @@ module _ (role : Role) (S : Settings) where
   pub reached : (calls : List Call) → Reached S (run role S fresh calls)
   reached calls = reached-run calls fresh (reached-fresh S)
 
--- ---- limits
+-- ---- what no calls lead to
 
--- with a max-frame-size in range
-pub reading-within : {S : Settings} {c : Connection} → Reached S c → 512 ≤ S .maxFrameSize → S .maxFrameSize ≤ 16384 → (512 ≤ c .readingLimit) × (c .readingLimit ≤ 16384)
-reading-within i low high = ⊎-elim (λ e. (omega arith, omega arith)) (λ e. (omega arith, omega arith)) (i .limits .reading-either)
+-- OpenReceived, Opened or CloseSent with nothing agreed
+pub unagreed-nowhere : (S : Settings) (x : State) → isOneOf afterOpen x ≡ true → Reached S (apply S (go x) fresh) → ⊥
+unagreed-nowhere S x e i = clash (isOneOf afterOpen x) e (i .unopened refl .stands)
+
+-- ---- what is so in either case
+
+module _ {S : Settings} {c : Connection} (i : Reached S c) where
+  -- with a max-frame-size in range
+  pub reading-within : 512 ≤ S .maxFrameSize → S .maxFrameSize ≤ 16384 → (512 ≤ c .readingLimit) × (c .readingLimit ≤ 16384)
+  reading-within low high =
+      either-way i
+      (λ u. let e : c .readingLimit ≡ 512 = ap (λ d. d .readingLimit) (u .at-first) in (omega arith, omega arith))
+      (λ m q a. let e = a .reading-own in (omega arith, omega arith))
+
+  pub writing-within : (512 ≤ c .writingLimit) × (c .writingLimit ≤ 16384)
+  writing-within =
+      either-way i
+      (λ u. let e : c .writingLimit ≡ 512 = ap (λ d. d .writingLimit) (u .at-first) in (omega arith, omega arith))
+      (λ m q a. (a .writing-low, a .writing-high))
+
+  -- a tied channel is at most the local channel-max
+  pub tied-within : TiedWithin (S .channelMax) (c .ties)
+  tied-within = either-way i (λ u n h. not-held (c .ties) n h (ap (λ d. d .ties) (u .at-first))) (λ m q a. a .tied)
+
+  pub shares : Shared (c .agreedMax) (c .handOut) (c .taken)
+  shares = either-way i (λ u. subst (λ d. Shared (d .agreedMax) (d .handOut) (d .taken)) (sym (u .at-first)) refl) (λ m q a. subst (λ o. Shared o (c .handOut) (c .taken)) (sym q) (a .shared))
+
+  -- no ties before both Opens
+  pub untied-yet : stage (c .state) ≤ 1 → c .ties ≡ nowhere
+  untied-yet u = either-way i (λ f. ap (λ d. d .ties) (f .at-first)) (λ m q a. a .untied (received (c .state) u (a .stands)))
+    where
+      received : (x : State) → stage x ≤ 1 → isOneOf beforeOpen x ≡ false → is OpenReceived x ≡ true
+      received x v e =
+          let t : T (cond (leb (stage x) 1) (isOneOf beforeOpen x || is OpenReceived x) true) =
+          everywhere (λ y. cond (leb (stage y) 1) (isOneOf beforeOpen y || is OpenReceived y) true) tt tt x in
+          let o : T (isOneOf beforeOpen x || is OpenReceived x) = implied (leb (stage x) 1) _ t (subst T (sym (le-leb (stage x) 1 v)) tt) in
+          true-is (is OpenReceived x) (subst (λ b. T (b || is OpenReceived x)) e o)
+
+  pub early : stage (c .state) ≡ 0 → c ≡ apply S (go (c .state)) fresh
+  early e =
+      let t : T (cond (eqb (stage (c .state)) 0) (isOneOf beforeOpen (c .state)) true) =
+      everywhere (λ y. cond (eqb (stage y) 0) (isOneOf beforeOpen y) true) tt tt (c .state) in
+      before-open i (true-is (isOneOf beforeOpen (c .state)) (implied (eqb (stage (c .state)) 0) _ t (subst T (sym (eq-eqb (stage (c .state)) 0 e)) tt)))
 
 -- ---- channels that are taken
 
 shared-once : (a : Option ℕ) (o : Option (List ℕ)) (tk : Map) → Shared a o tk → (m : ℕ) (l : List ℕ) → a ≡ some m → o ≡ some l → EachOnce m l tk
 shared-once a o tk i m l e q = subst (λ b. Shared b (some l) tk) e (subst (λ b. Shared a b tk) q i)
 
--- taken numbers and the hand-out list together are 0 to the agreed channel-max, each once
-pub each-once : {S : Settings} {c : Connection} → Reached S c → (m : ℕ) (l : List ℕ) → c .agreedMax ≡ some m → c .handOut ≡ some l → EachOnce m l (c .taken)
-each-once {S} {c} i = shared-once (c .agreedMax) (c .handOut) (c .taken) (i .shared)
+module _ {S : Settings} {c : Connection} (i : Reached S c) where
+  -- taken numbers and the hand-out list together are 0 to the agreed channel-max, each once
+  pub each-once : (m : ℕ) (l : List ℕ) → c .agreedMax ≡ some m → c .handOut ≡ some l → EachOnce m l (c .taken)
+  each-once = shared-once (c .agreedMax) (c .handOut) (c .taken) (shares i)
 
-agreed-taken : (most : ℕ) (a : Option ℕ) (l : Option (List ℕ)) (tk : Map) → AgreedWithin most a → Shared a l tk → (n h : ℕ) → tk n ≡ some h → (m : ℕ) × (a ≡ some m) × (n ≤ m) × (m ≤ most)
-agreed-taken most none none tk w i n h e = nothing-some (tk n) h (ap (λ f. f n) i) e
-agreed-taken most none (some l) tk w i n h e = absurd i
-agreed-taken most (some m) none tk w i n h e = absurd i
-agreed-taken most (some m) (some l) tk w i n h e = (m, refl, once-taken m l tk n h i e, w)
+  -- a taken channel is at most the agreed channel-max, which is at most the local one
+  pub taken-within : (n h : ℕ) → c .taken n ≡ some h → (m : ℕ) × (c .agreedMax ≡ some m) × (n ≤ m) × (m ≤ S .channelMax)
+  taken-within n h e = either-way i (λ u. not-held (c .taken) n h (ap (λ d. d .taken) (u .at-first)) e) (λ m q a. (m, q, low m (c .handOut) (a .shared), a .most))
+    where
+      low : (m : ℕ) (l : Option (List ℕ)) → Shared (some m) l (c .taken) → n ≤ m
+      low m none s = absurd s
+      low m (some l) s = once-taken m l (c .taken) n h s e
 
--- a taken channel is at most the agreed channel-max, which is at most the local one
-pub taken-within : {S : Settings} {c : Connection} → Reached S c → (n h : ℕ) → c .taken n ≡ some h → (m : ℕ) × (c .agreedMax ≡ some m) × (n ≤ m) × (m ≤ S .channelMax)
-taken-within {S} {c} i = agreed-taken (S .channelMax) (c .agreedMax) (c .handOut) (c .taken) (i .agreed) (i .shared)
-
-no-list-none : (a : Option ℕ) (l : Option (List ℕ)) (tk : Map) → Shared a l tk → l ≡ none → tk ≡ nowhere
-no-list-none none none tk i e = i
-no-list-none none (some l) tk i e = absurd i
-no-list-none (some m) none tk i e = absurd i
-no-list-none (some m) (some l) tk i e = nothing-some (some l) l e refl
-
--- nothing is taken while there is no hand-out list
-pub none-taken-yet : {S : Settings} {c : Connection} → Reached S c → c .handOut ≡ none → c .taken ≡ nowhere
-none-taken-yet {S} {c} i = no-list-none (c .agreedMax) (c .handOut) (c .taken) (i .shared)
+  -- nothing is taken while there is no hand-out list
+  pub none-taken-yet : c .handOut ≡ none → c .taken ≡ nowhere
+  none-taken-yet e = either-way i (λ u. ap (λ d. d .taken) (u .at-first)) (λ m q a. absurd (subst (λ o. Shared (some m) o (c .taken)) e (a .shared)))
 
 -- ---- handles
 
@@ -154,12 +244,9 @@ abbrev pub AllLend : (ℕ → Type 0) → List Call → Type 0
 AllLend H [] = Unit {0}
 AllLend H (call ∷ calls) = Lends H call × AllLend H calls
 
-some-same : {A : Type 0} (P : A → Type 0) (a b : A) → some a ≡ some b → P a → P b
-some-same P a b e p = let q : a ≡ b = cc in subst P q p
-
-holder-lent : (H : ℕ → Type 0) (c : Connection) (o : Option ℕ) → Holder c o → ((n h : ℕ) → c .taken n ≡ some h → H h) → (k : ℕ) → o ≡ some k → H k
-holder-lent H c none l i k e = nothing-some none k refl e
-holder-lent H c (some h) l i k e = some-same H h k e (i (l .0) h (l .1))
+holder-lent : (H : ℕ → Type 0) (c : Connection) (ch : ℕ) (o : Option ℕ) → Holder c ch o → ((n h : ℕ) → c .taken n ≡ some h → H h) → (k : ℕ) → o ≡ some k → H k
+holder-lent H c ch none l i k e = nothing-some none k refl e
+holder-lent H c ch (some h) l i k e = some-same H h k e (i (l .0) h (l .1))
 
 module _ (H : ℕ → Type 0) (S : Settings) where
   lent-keeps : (e : Effect) (c : Connection) → Legit H S c e → Lent H (c .taken) (c .ties) → Lent H ((apply S e c) .taken) ((apply S e c) .ties)
@@ -176,7 +263,7 @@ module _ (H : ℕ → Type 0) (S : Settings) where
   }
   lent-keeps (tie ch h) c l i = record {
     taken-lent = i .taken-lent;
-    tied-lent = with-holds {P = λ n k. H k} (c .ties) ch h (holder-lent H c h (l .holder) (i .taken-lent)) (i .tied-lent);
+    tied-lent = with-holds {P = λ n k. H k} (c .ties) ch h (holder-lent H c ch h (l .holder) (i .taken-lent)) (i .tied-lent);
   }
   lent-keeps (takeAndTie ch rest h at) c l i = record {
     taken-lent = with-holds {P = λ n k. H k} (c .taken) ch (some h) (λ k e. some-same H h k e (l .0 .lent)) (i .taken-lent);

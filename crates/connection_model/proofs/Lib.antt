@@ -1,5 +1,6 @@
 -- Worked lists of calls; laws of the rules, of channel numbers and of every connection that calls can lead to; the account theorem.
 pub mod Worked
+pub mod Part2
 pub mod Rules
 pub mod Channels
 pub mod Invariant

@@ -2,7 +2,7 @@
 -- What the codec answers to given bytes is a variable here: of a read frame and of a session's frame only the bounds on their channels are used.
 -- Assumes nothing.
 use mathlib.Core.Path.{_≡_, refl, sym, _∙_, ap, subst}
-use mathlib.Core.Bool.{Bool, true, false, cond, _&&_}
+use mathlib.Core.Bool.{Bool, true, false, cond, not, _&&_}
 use mathlib.Core.List.{List, [], _∷_}
 use mathlib.Core.Option.{Option, none, some}
 use Prim.Native.Nat.{ℕ, zero, suc, _≤_}
@@ -16,9 +16,9 @@ use Rattle.performatives.specs.Performative.{Performative, performative, remote
 use Rattle.frame_decoder.specs.Frame.{Frame, frame, content, bodyIn, readFrame, within, beginsFor, anySize, anyChannel, sessionPerformative, sessionFrame}
 use Rattle.frame_encoder.specs.Frames.{Settings, ErrorText, limited}
 use Rattle.session_frame.specs.Session.{sessionBytes}
-use Rattle.connection_state.specs.States.{State, Start, HeaderReceived, HeaderSent, HeaderExchange, OpenPipe, OpenClosePipe, OpenReceived, OpenSent, ClosePipe, Opened, CloseReceived, CloseSent, Discarding, End, numbered, is, isOneOf, Move, _⇒_, along, sendHeader, receiveHeader, receiveOtherHeader, sendOpen, readOpen, sendClose, sendCloseWithError, readClose, reading, sending, silent}
-use Rattle.connection_state.proofs.States.{states, numbered-state, is-state}
-use Rattle.connection_model.specs.Sound.{stage}
+use Rattle.connection_state.specs.States.{State, Start, HeaderReceived, HeaderSent, HeaderExchange, OpenPipe, OpenClosePipe, OpenReceived, OpenSent, ClosePipe, Opened, CloseReceived, CloseSent, Discarding, End, numbered, is, isOneOf, Move, _⇒_, along, sendHeader, receiveHeader, receiveOtherHeader, sendOpen, readOpen, sendClose, sendCloseWithError, readClose, reading, sending, beforeOpen, afterOpen, silent}
+use Rattle.connection_state.proofs.States.{is-state}
+pub use Rattle.connection_state.proofs.States.{and-left, and-right, each, everywhere}
 use Rattle.connection_model.specs.Connection.{Role, dialler, listener, Connection, Call, sendHeaderTo, receiveHeaderFrom, sendOpenTo, receiveFrame, sendCloseTo, sendSessionFrame, allocate, deallocate, tick, Effect, stay, go, agree, take, give, tie, takeAndTie, Outcome, headed, tieTo, untie, passOn, newSession, begun, openRead, sessionRead, performativeRead, frameRead, closes, tiedBy, sessionSent, given, released, decide}
 
 -- ---- the parts of a rule
@@ -62,14 +62,6 @@ require-passed k false rest t = absurd t
 
 -- ---- tests
 
-pub and-left : (a b : Bool) → T (a && b) → T a
-and-left true b t = tt
-and-left false b t = t
-
-pub and-right : (a b : Bool) → T (a && b) → T b
-and-right true b t = t
-and-right false b t = absurd t
-
 -- b passes wherever a does
 pub implied : (a b : Bool) → T (cond a b true) → T a → T b
 implied true b t u = t
@@ -81,11 +73,7 @@ either false d t p q = q t
 
 -- ---- states
 
--- a test that passes at each of some states, at each row of a table
-abbrev pub each : (State → Bool) → List State → Bool
-each f [] = true
-each f (x ∷ xs) = f x && each f xs
-
+-- a test that passes at each row of a table
 abbrev pub eachRow : (State → State → Bool) → List Move → Bool
 eachRow f [] = true
 eachRow f ((a ⇒ b) ∷ moves) = f a b && eachRow f moves
@@ -97,15 +85,6 @@ one-of f (a ∷ xs) t x u =
     (λ v. subst (λ y. T (f y)) (is-state a x v) (and-left (f a) (each f xs) t))
     (λ v. one-of f xs (and-right (f a) (each f xs) t) x v)
 
-nth : (f : State → Bool) → T (f End) → (xs : List State) → T (each f xs) → (n : ℕ) → T (f (getD xs n End))
-nth f e [] t n = e
-nth f e (x ∷ xs) t zero = and-left (f x) (each f xs) t
-nth f e (x ∷ xs) t (suc n) = nth f e xs (and-right (f x) (each f xs) t) n
-
--- a test that passes at each of the fourteen passes at any
-pub everywhere : (f : State → Bool) → T (f End) → T (each f states) → (x : State) → T (f x)
-everywhere f e t x = subst (λ y. T (f y)) (numbered-state x) (nth f e states t (numbered x))
-
 pub on-along : (f : State → State → Bool) (table : List Move) → T (eachRow f table) → (x : State) → Holds (λ y. T (f x y)) (along table x)
 on-along f [] t x = refused
 on-along f ((a ⇒ b) ∷ moves) t x =
@@ -113,13 +92,65 @@ on-along f ((a ⇒ b) ∷ moves) t x =
     (λ u. holds (subst (λ y. T (f y b)) (is-state a x u) (and-left (f a b) (eachRow f moves) t)))
     (on-along f moves (and-right (f a b) (eachRow f moves) t) x)
 
--- no move leads to an earlier stage
-abbrev pub onward : State → State → Bool
-onward a b = leb (stage a) (stage b)
+-- how far a connection is: 0 before the peer's Open or Close, 1 with the peer's Open alone, 2 with both Opens, 3 with the peer's Close, 4 where nothing but a tick is written any more
+abbrev pub stage : State → ℕ
+stage Start = 0
+stage HeaderReceived = 0
+stage HeaderSent = 0
+stage HeaderExchange = 0
+stage OpenPipe = 0
+stage OpenClosePipe = 0
+stage OpenReceived = 1
+stage OpenSent = 0
+stage ClosePipe = 0
+stage Opened = 2
+stage CloseReceived = 3
+stage CloseSent = 4
+stage Discarding = 4
+stage End = 4
 
--- the peer's Open comes once, and nothing that it settles was settled before
+-- but for the peer's Open, no move leads to an earlier stage, from before it to after it or back, or to OpenReceived
+abbrev pub onward : State → State → Bool
+onward a b =
+    leb (stage a) (stage b)
+    && (cond (isOneOf afterOpen b) (isOneOf afterOpen a) true && (cond (isOneOf beforeOpen b) (isOneOf beforeOpen a) true && not (is OpenReceived b)))
+
+-- the peer's Open comes once
 abbrev pub opens : State → State → Bool
-opens a b = eqb (stage a) 0 && leb 1 (stage b)
+opens a b = isOneOf beforeOpen a && (leb (stage a) (stage b) && not (isOneOf beforeOpen b))
+
+pub true-is : (b : Bool) → T b → b ≡ true
+true-is true t = refl
+true-is false t = absurd t
+
+pub false-is : (b : Bool) → T (not b) → b ≡ false
+false-is true t = absurd t
+false-is false t = refl
+
+-- a fails where b does
+fails-too : (a b : Bool) → T (cond a b true) → b ≡ false → a ≡ false
+fails-too true b t e = absurd (subst T e t)
+fails-too false b t e = refl
+
+pub record Goes (from to : State) : Type 0 where
+  pub later : stage from ≤ stage to
+  pub not-after : isOneOf afterOpen from ≡ false → isOneOf afterOpen to ≡ false
+  pub not-before : isOneOf beforeOpen from ≡ false → isOneOf beforeOpen to ≡ false
+  pub not-received : is OpenReceived to ≡ false
+
+goes : (a b : State) → T (onward a b) → Goes a b
+goes a b t =
+    let after = cond (isOneOf afterOpen b) (isOneOf afterOpen a) true in
+    let before = cond (isOneOf beforeOpen b) (isOneOf beforeOpen a) true in
+    let received = not (is OpenReceived b) in
+    let u = and-right (leb (stage a) (stage b)) (after && (before && received)) t in
+    let v = and-right after (before && received) u in
+    record {
+      later = leb→le (stage a) (stage b) (and-left (leb (stage a) (stage b)) (after && (before && received)) t);
+      not-after = fails-too (isOneOf afterOpen b) (isOneOf afterOpen a) (and-left after (before && received) u);
+      not-before = fails-too (isOneOf beforeOpen b) (isOneOf beforeOpen a) (and-left before received v);
+      not-received = false-is (is OpenReceived b) (and-right before received v);
+    }
 
 -- ---- channels of frames
 
@@ -179,14 +210,15 @@ lends-any (allocate h) = tt
 lends-any (deallocate ch) = tt
 lends-any (tick out) = tt
 
--- a tie is to a handle that holds a channel
-abbrev pub Holder : Connection → Option ℕ → Type 0
-Holder c none = Unit {0}
-Holder c (some h) = (n : ℕ) × (c .taken n ≡ some h)
+-- a tie is to a handle that holds a channel, and what is untied was tied
+abbrev pub Holder : Connection → ℕ → Option ℕ → Type 0
+Holder c ch none = (h : ℕ) × (c .ties ch ≡ some h)
+Holder c ch (some h) = (n : ℕ) × (c .taken n ≡ some h)
 
 pub record Agrees (S : Settings) (from to : State) (m w : ℕ) : Type 0 where
-  pub first : stage from ≡ 0
-  pub opened : 1 ≤ stage to
+  pub first : isOneOf beforeOpen from ≡ true
+  pub later : stage from ≤ stage to
+  pub opened : isOneOf beforeOpen to ≡ false
   pub most : m ≤ S .channelMax
   pub low : 512 ≤ w
   pub high : w ≤ 16384
@@ -194,7 +226,7 @@ pub record Agrees (S : Settings) (from to : State) (m w : ℕ) : Type 0 where
 pub record Ties (S : Settings) (c : Connection) (ch : ℕ) (h : Option ℕ) : Type 0 where
   pub open-yet : 2 ≤ stage (c .state)
   pub most : ch ≤ S .channelMax
-  pub holder : Holder c h
+  pub holder : Holder c ch h
 
 pub record Takes (H : ℕ → Type 0) (c : Connection) (ch : ℕ) (rest : List ℕ) (h : ℕ) : Type 0 where
   pub next : c .handOut ≡ some (ch ∷ rest)
@@ -202,7 +234,7 @@ pub record Takes (H : ℕ → Type 0) (c : Connection) (ch : ℕ) (rest : List �
 
 abbrev pub Legit : (ℕ → Type 0) → Settings → Connection → Effect → Type 0
 Legit H S c stay = Unit {0}
-Legit H S c (go x) = stage (c .state) ≤ stage x
+Legit H S c (go x) = Goes (c .state) x
 Legit H S c (agree x m w) = Agrees S (c .state) x m w
 Legit H S c (take ch rest h) = Takes H c ch rest h
 Legit H S c (give ch) = (h : ℕ) × (c .taken ch ≡ some h)
@@ -217,8 +249,8 @@ module _ (H : ℕ → Type 0) (role : Role) (S : Settings) (c : Connection) wher
   Fine v = Holds (Lawful H S c) v
 
   -- a move along a table
-  moved : (table : List Move) → T (eachRow onward table) → (f : State → Verdict Outcome) → ((x : State) → stage (c .state) ≤ stage x → Fine (f x)) → Fine (andThen (along table (c .state)) f)
-  moved table t f g = on-andThen _ _ (on-along onward table t (c .state)) (λ x u. g x (leb→le _ _ u))
+  moved : (table : List Move) → T (eachRow onward table) → (f : State → Verdict Outcome) → ((x : State) → Goes (c .state) x → Fine (f x)) → Fine (andThen (along table (c .state)) f)
+  moved table t f g = on-andThen _ _ (on-along onward table t (c .state)) (λ x u. g x (goes (c .state) x u))
 
   on-headed : (p : Protocol) → Fine (headed c p)
   on-headed amqp100 = moved receiveHeader tt _ (λ x g. holds g)
@@ -230,9 +262,9 @@ module _ (H : ℕ → Type 0) (role : Role) (S : Settings) (c : Connection) wher
     on-tieTo u r none e = refused
     on-tieTo u r (some h) e = let l : Ties S c (f .channel) (some h) = record { open-yet = u; most = le; holder = (r, e) } in holds l
 
-    on-untie : 2 ≤ stage (c .state) → (o : Option ℕ) → Fine (untie f o)
-    on-untie u none = refused
-    on-untie u (some h) = let l : Ties S c (f .channel) none = record { open-yet = u; most = le; holder = tt } in holds l
+    on-untie : 2 ≤ stage (c .state) → (o : Option ℕ) → c .ties (f .channel) ≡ o → Fine (untie f o)
+    on-untie u none e = refused
+    on-untie u (some h) e = let l : Ties S c (f .channel) none = record { open-yet = u; most = le; holder = (h, e) } in holds l
 
     on-passOn : (code : ℕ) (o : Option ℕ) → Fine (passOn f code o)
     on-passOn code none = refused
@@ -251,8 +283,9 @@ module _ (H : ℕ → Type 0) (role : Role) (S : Settings) (c : Connection) wher
     on-openRead : (size most idle : ℕ) → Fine (openRead S c f size most idle)
     on-openRead size most idle =
         on-andThen _ _ (on-along opens readOpen tt (c .state)) (λ x t. holds (record {
-          first = eqb→eq _ _ (and-left (eqb (stage (c .state)) 0) (leb 1 (stage x)) t);
-          opened = leb→le _ _ (and-right (eqb (stage (c .state)) 0) (leb 1 (stage x)) t);
+          first = true-is (isOneOf beforeOpen (c .state)) (and-left (isOneOf beforeOpen (c .state)) _ t);
+          later = leb→le _ _ (and-left (leb (stage (c .state)) (stage x)) _ (and-right (isOneOf beforeOpen (c .state)) _ t));
+          opened = false-is (isOneOf beforeOpen x) (and-right (leb (stage (c .state)) (stage x)) _ (and-right (isOneOf beforeOpen (c .state)) _ t));
           most = omega arith;
           low = omega arith;
           high = omega arith;
@@ -263,7 +296,7 @@ module _ (H : ℕ → Type 0) (role : Role) (S : Settings) (c : Connection) wher
         on-require _ _ _ _ (λ t.
         let u : 2 ≤ stage (c .state) = leb→le _ _ (one-of (λ x. leb 2 (stage x)) reading tt (c .state) t) in
         on-cond _ (eqb code 17) _ _ (λ t. on-begun u h k rs)
-        (on-cond _ (eqb code 23) _ _ (λ t. on-untie u (c .ties (f .channel))) (on-passOn code (c .ties (f .channel)))))
+        (on-cond _ (eqb code 23) _ _ (λ t. on-untie u (c .ties (f .channel)) refl) (on-passOn code (c .ties (f .channel)))))
 
     on-performative : (h : ℕ) → H h → (p : Performative) → Fine (performativeRead role S c f h p)
     on-performative h k p =
@@ -312,7 +345,7 @@ module _ (H : ℕ → Type 0) (role : Role) (S : Settings) (c : Connection) wher
   lawful (sendOpenTo out) k = on-require _ _ _ _ (λ t. moved sendOpen tt _ (λ x g. on-any _ _ _ (λ bytes. holds g)))
   lawful (receiveFrame s h) k = on-andThen _ _ (read-channel (c .readingLimit) (S .channelMax) s) (on-frame h k)
   lawful (sendCloseTo e out) k =
-      on-require _ _ _ _ (λ t. on-require _ _ _ _ (λ u. on-andThen _ _ (on-closes e) (λ x g. on-any _ _ _ (λ bytes. holds (leb→le _ _ g)))))
+      on-require _ _ _ _ (λ t. on-require _ _ _ _ (λ u. on-andThen _ _ (on-closes e) (λ x g. on-any _ _ _ (λ bytes. holds (goes (c .state) x g)))))
   lawful (sendSessionFrame s out) k = on-require _ _ _ _ (λ t. on-andThen _ _ (sent-names (S .channelMax) s) (on-sent s))
   lawful (allocate h) k = on-require _ _ _ _ (λ t. on-given h k (c .handOut) refl)
   lawful (deallocate ch) k = on-released ch (c .taken ch) refl

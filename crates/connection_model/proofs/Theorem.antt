@@ -18,7 +18,7 @@ use Rattle.connection_model.specs.Connection.{Role, Connection, fresh, C
 use Rattle.connection_model.specs.Account.{account}
 use Rattle.connection_model.specs.Callers.{Valid}
 use Rattle.connection_model.specs.Sound.{Reached}
-use Rattle.connection_model.proofs.Invariant.{reached, reading-within, taken-within}
+use Rattle.connection_model.proofs.Invariant.{reached, reading-within, writing-within, tied-within, taken-within}
 use Rattle.connection_model.proofs.Forward.{forward-run}
 use Rattle.connection_model.proofs.Apart.{Reachable, settings-within, apart}
 
@@ -29,10 +29,10 @@ reachable S ok c r =
     record {
       reading-low = l .0;
       reading-high = l .1;
-      writing-low = r .limits .writing-low;
-      writing-high = r .limits .writing-high;
+      writing-low = writing-within r .0;
+      writing-high = writing-within r .1;
       taken-in = λ n h e. let t = taken-within r n h e in omega (arith, t .2, t .3, w .2);
-      ties-in = r .tied;
+      ties-in = tied-within r;
     }
 
 pub account-theorem :

@@ -1,12 +1,12 @@
 -- The fourteen states: each is told by its number.
 -- Assumes nothing.
-use mathlib.Core.Path.{_≡_, refl, sym, _∙_, ap}
-use mathlib.Core.Bool.{Bool, true, false, cond}
+use mathlib.Core.Path.{_≡_, refl, sym, _∙_, ap, subst}
+use mathlib.Core.Bool.{Bool, true, false, cond, _&&_}
 use mathlib.Core.List.{List, [], _∷_}
 use mathlib.Core.Option.{Option, none, some}
-use Prim.Native.Nat.{ℕ, _<_}
+use Prim.Native.Nat.{ℕ, zero, suc, _<_}
 use native.Mathlib.Omega.{arith}
-use lib.Dec.{T, eqb, eqb→eq}
+use lib.Dec.{T, ltb, eqb, ltb→lt, eqb→eq}
 use lib.ListN.{getD}
 use borrow.Author.Tests.{eqb-true, ne-eqb}
 use Rattle.connection_state.specs.States.{State, Start, HeaderReceived, HeaderSent, HeaderExchange, OpenPipe, OpenClosePipe, OpenReceived, OpenSent, ClosePipe, Opened, CloseReceived, CloseSent, Discarding, End, numbered, numberedIn, withNumber, is}
@@ -35,40 +35,44 @@ numbered-once a b e = sym (numbered-state a) ∙ ap (λ n. getD states n End) e 
 pub is-state : (a b : State) → T (is a b) → a ≡ b
 is-state a b t = numbered-once a b (eqb→eq (numbered a) (numbered b) t)
 
+-- ---- what passes at each of them passes at all
+
+pub and-left : (a b : Bool) → T (a && b) → T a
+and-left true b t = tt
+and-left false b t = t
+
+pub and-right : (a b : Bool) → T (a && b) → T b
+and-right true b t = t
+and-right false b t = absurd t
+
+abbrev pub each : (State → Bool) → List State → Bool
+each f [] = true
+each f (x ∷ xs) = f x && each f xs
+
+nth : (f : State → Bool) → T (f End) → (xs : List State) → T (each f xs) → (n : ℕ) → T (f (getD xs n End))
+nth f e [] t n = e
+nth f e (x ∷ xs) t zero = and-left (f x) (each f xs) t
+nth f e (x ∷ xs) t (suc n) = nth f e xs (and-right (f x) (each f xs) t) n
+
+pub everywhere : (f : State → Bool) → T (f End) → T (each f states) → (x : State) → T (f x)
+everywhere f e t x = subst (λ y. T (f y)) (numbered-state x) (nth f e states t (numbered x))
+
 pub numbered-low : (x : State) → numbered x < 14
-numbered-low Start = omega arith
-numbered-low HeaderReceived = omega arith
-numbered-low HeaderSent = omega arith
-numbered-low HeaderExchange = omega arith
-numbered-low OpenPipe = omega arith
-numbered-low OpenClosePipe = omega arith
-numbered-low OpenReceived = omega arith
-numbered-low OpenSent = omega arith
-numbered-low ClosePipe = omega arith
-numbered-low Opened = omega arith
-numbered-low CloseReceived = omega arith
-numbered-low CloseSent = omega arith
-numbered-low Discarding = omega arith
-numbered-low End = omega arith
+numbered-low x = ltb→lt (numbered x) 14 (everywhere (λ y. ltb (numbered y) 14) tt tt x)
 
 -- ---- the state that has a number
 
+abbrev holds : State → Option State → Bool
+holds x none = false
+holds x (some y) = is x y
+
+held : (x : State) (o : Option State) → T (holds x o) → o ≡ some x
+held x none t = absurd t
+held x (some y) t = ap some (sym (is-state x y t))
+
 pub numbered-back : (x : State) → withNumber (numbered x) ≡ some x
 unfolding withNumber
-numbered-back Start = refl
-numbered-back HeaderReceived = refl
-numbered-back HeaderSent = refl
-numbered-back HeaderExchange = refl
-numbered-back OpenPipe = refl
-numbered-back OpenClosePipe = refl
-numbered-back OpenReceived = refl
-numbered-back OpenSent = refl
-numbered-back ClosePipe = refl
-numbered-back Opened = refl
-numbered-back CloseReceived = refl
-numbered-back CloseSent = refl
-numbered-back Discarding = refl
-numbered-back End = refl
+numbered-back x = held x (numberedIn states (numbered x)) (everywhere (λ y. holds y (numberedIn states (numbered y))) tt tt x)
 
 pub with-number-is : (k : ℕ) (x : State) → withNumber k ≡ some x → numbered x ≡ k
 unfolding withNumber

@@ -90,6 +90,13 @@ reading = Opened ∷ []
 abbrev pub sending : List State
 sending = Opened ∷ CloseReceived ∷ []
 
+-- a connection is in these only before the peer's Open, and only after it
+abbrev pub beforeOpen : List State
+beforeOpen = Start ∷ HeaderReceived ∷ HeaderSent ∷ HeaderExchange ∷ OpenPipe ∷ OpenClosePipe ∷ OpenSent ∷ ClosePipe ∷ []
+
+abbrev pub afterOpen : List State
+afterOpen = OpenReceived ∷ Opened ∷ CloseSent ∷ []
+
 -- no channel is given in these: 22
 abbrev pub stopped : List State
 stopped = CloseSent ∷ Discarding ∷ End ∷ []

@@ -1,8 +1,8 @@
 // The states of a connection and the moves between them (Part 2, section 2.4.6).
 ghost use mathlib.Core.Path.{_≡_};
-ghost use Rattle.connection_state.specs.States.{along, is, isOneOf, numbered, withNumber, Discarding, End};
+ghost use Rattle.connection_state.specs.States.{along, is, isOneOf, numbered, withNumber, OpenReceived, Discarding, End};
 ghost use Rattle.connection_state.specs.States.{sendHeader, receiveHeader, receiveOtherHeader, sendOpen, readOpen, sendClose, sendCloseWithError, readClose};
-ghost use Rattle.connection_state.specs.States.{reading, sending, stopped, silent};
+ghost use Rattle.connection_state.specs.States.{reading, sending, beforeOpen, afterOpen, stopped, silent};
 ghost use Rattle.connection_state.specs.Answers.{stateSays, movedSays, numberedSays};
 
 pub enum ConnectionState {
@@ -151,6 +151,45 @@ impl ConnectionState {
         match self {
             ConnectionState::Opened => true,
             ConnectionState::CloseReceived => true,
+            _ => false,
+        }
+    }
+
+    // Whether the peer's Open is still to come, if it comes.
+    pub fn is_before_open(self) -> bool
+        ensures { λ r. ⌜ r ≡ isOneOf beforeOpen (stateSays self) ⌝ }
+    {
+        match self {
+            ConnectionState::Start => true,
+            ConnectionState::HeaderReceived => true,
+            ConnectionState::HeaderSent => true,
+            ConnectionState::HeaderExchange => true,
+            ConnectionState::OpenPipe => true,
+            ConnectionState::OpenClosePipe => true,
+            ConnectionState::OpenSent => true,
+            ConnectionState::ClosePipe => true,
+            _ => false,
+        }
+    }
+
+    // Whether the peer's Open was read.
+    pub fn is_after_open(self) -> bool
+        ensures { λ r. ⌜ r ≡ isOneOf afterOpen (stateSays self) ⌝ }
+    {
+        match self {
+            ConnectionState::OpenReceived => true,
+            ConnectionState::Opened => true,
+            ConnectionState::CloseSent => true,
+            _ => false,
+        }
+    }
+
+    // Whether the peer's Open was read and ours is to be sent.
+    pub fn is_open_received(self) -> bool
+        ensures { λ r. ⌜ r ≡ is OpenReceived (stateSays self) ⌝ }
+    {
+        match self {
+            ConnectionState::OpenReceived => true,
             _ => false,
         }
     }

@@ -24,13 +24,14 @@ use Rattle.channels.proofs.Steps.{apart}
 use Rattle.channels.proofs.Numbers.{once-taken}
 use Rattle.channels.proofs.Counting.{free-and-taken}
 use Rattle.channels.proofs.Parts.{length-handles}
+use Rattle.local_open.specs.Settings.{allowed}
 use Rattle.local_open.specs.Bytes.{settingsBytes}
 use Rattle.local_open.proofs.Bytes.{length-settings, id-within, same-settings}
 use Rattle.connection_model.specs.Connection.{Role, dialler, listener, Connection}
-use Rattle.connection_model.specs.Sound.{AgreedWithin}
+use Rattle.connection_model.specs.Sound.{Reached}
 use Rattle.connection_model.specs.Callers.{areBytes}
 use Rattle.connection_model.proofs.Valid.{both, bytes-append, bytes-number}
-use Rattle.connection_model.proofs.Invariant.{reading-within}
+use Rattle.connection_model.proofs.Invariant.{reading-within, writing-within, tied-within, shares}
 use Rattle.connection_model.proofs.Apart.{settings-within}
 use Rattle.endpoint.specs.Bytes.{roleNumber, endpointBytes, Storable}
 use Rattle.endpoint.specs.Parts.{Holds}
@@ -38,9 +39,13 @@ use Rattle.endpoint.proofs.Octets.{handles-octets, channels-octets, set
 
 -- ---- what has room in the bytes
 
-agreed-fits : (most : ℕ) → most ≤ 255 → (a : Option ℕ) → AgreedWithin most a → Fits 1 a
-agreed-fits most h none w = tt
-agreed-fits most h (some m) w = omega arith
+-- of an agreed channel-max
+pub agreed-fits : {S : Settings} {c : Connection} → Reached S c → allowed S ≡ true → Fits 1 (c .agreedMax)
+agreed-fits {S} {c} i ok = among (c .agreedMax) refl
+  where
+    among : (o : Option ℕ) → c .agreedMax ≡ o → Fits 1 o
+    among none e = tt
+    among (some m) e = omega (arith, i .agreed m e .most, settings-within (S .containerId) (S .maxFrameSize) (S .channelMax) ok .2)
 
 -- an agreed channel-max of 8 bits
 pub agreed-byte : (t : OutgoingChannels) → t .highest < 256 → Fits 1 (agreedSays t)
@@ -56,12 +61,12 @@ storable-holds {S} {c} f =
       within = f .within;
       idle-low = f .idle;
       reading-low = omega (arith, r .1);
-      writing-low = omega (arith, f .reached .limits .writing-high);
-      agreed-low = agreed-fits (S .channelMax) (w .2) (c .agreedMax) (f .reached .agreed);
-      shared = f .reached .shared;
+      writing-low = omega (arith, writing-within (f .reached) .1);
+      agreed-low = agreed-fits (f .reached) (f .within);
+      shared = shares (f .reached);
       taken-low = f .taken;
       tied-low = f .tied;
-      tied-in = λ n h q. omega (arith, f .reached .tied n h q, w .2);
+      tied-in = λ n h q. omega (arith, tied-within (f .reached) n h q, w .2);
     }
 
 pub list-short : (a : Option ℕ) (l : Option (List ℕ)) (f : Map) → Fits 1 a → Shared a l f → length (numbers l) ≤ 256

@@ -56,7 +56,7 @@ routing e t m = holding e (e .«reading_limit») (e .«writing_limit») t m
 unchanged : {e : Endpoint} {r w : ℕ} {t : OutgoingChannels} {m : Handles} → Same e (holding e r w t m)
 unchanged = record { same-role = refl; same-settings = refl }
 
-alike :
+pub alike :
     (x : State) {r r′ w w′ : ℕ} {a a′ : Option ℕ} {l l′ : Option (List ℕ)} {f f′ g g′ : Map}
     → r ≡ r′ → w ≡ w′ → a ≡ a′ → l ≡ l′ → f ≡ f′ → g ≡ g′ → connection x r w a l f g ≡ connection x r′ w′ a′ l′ f′ g′
 alike x p q s t u v = λ i. connection x (p i) (q i) (s i) (t i) (u i) (v i)

@@ -9,20 +9,20 @@ use Rattle.octets.specs.Octets.{bytesOf}
 use Rattle.layout.specs.Layout.{Fits}
 use Rattle.frame_encoder.specs.Frames.{Settings}
 use Rattle.connection_state.specs.States.{State}
-use Rattle.channels.specs.Numbers.{Map, nowhere, Shared}
+use Rattle.channels.specs.Numbers.{Map, Shared}
 use Rattle.channels.specs.Channels.{agreedSays, handOutSays, takenSays, handlesSay, SharedBy}
 use Rattle.channels.specs.Bytes.{channelsBytes, handlesBytes}
 use Rattle.channels.specs.declared.Handles.{Handles}
 use Rattle.channels.specs.declared.OutgoingChannels.{OutgoingChannels}
 use Rattle.connection_model.specs.Connection as M
-use Rattle.connection_model.specs.Sound.{Limits, TiedWithin, AgreedWithin, Reached}
+use Rattle.connection_model.specs.Sound.{Unopened, Agreed, Reached}
 use Rattle.local_open.specs.Settings.{allowed}
 use Rattle.endpoint.specs.declared.Role.{Role}
 use Rattle.endpoint.specs.declared.Endpoint.{Endpoint}
 use Rattle.endpoint.specs.declared.EndpointRead.{EndpointRead}
 use Rattle.endpoint.specs.declared.TablesRead.{TablesRead}
 use Rattle.endpoint.specs.Bytes.{roleNumber, endpointBytes, Storable}
-use Rattle.endpoint.specs.Answers.{roleOf, settingsOf, agreedOf, tiesOf, viewAs}
+use Rattle.endpoint.specs.Answers.{roleOf, settingsOf, agreedOf, viewAs}
 use Rattle.endpoint.specs.Promises.{Newest}
 
 -- the role and the limits
@@ -41,39 +41,25 @@ pub record Holds (S : Settings) (c : M.Connection) : Type 0 where
   pub tied-low : (n : ℕ) → Fits 4 (c .ties n)
   pub tied-in : (n h : ℕ) → c .ties n ≡ some h → n ≤ 255
 
--- ---- whether calls can lead to an endpoint
+-- ---- whether calls can lead to an endpoint whose channel numbers keep the rule
+
+pub record TellsUnopened (self : Endpoint) (x : State) (r : Bool) : Type 0 where
+  pub yes : r ≡ true → agreedOf self ≡ none → SharedBy (self .outgoing) → Unopened (settingsOf self) (viewAs x self)
+  pub no : r ≡ false → Unopened (settingsOf self) (viewAs x self) → ⊥
+
+-- the limits after the peer's Open
+pub record AgreedLimits (self : Endpoint) : Type 0 where
+  pub reading-own : self .«reading_limit» ≡ settingsOf self .maxFrameSize
+  pub writing-low : 512 ≤ self .«writing_limit»
+  pub writing-high : self .«writing_limit» ≤ 16384
 
 pub record TellsLimits (self : Endpoint) (r : Bool) : Type 0 where
-  pub yes : r ≡ true → Limits (settingsOf self) (self .«reading_limit») (self .«writing_limit»)
-  pub no : r ≡ false → Limits (settingsOf self) (self .«reading_limit») (self .«writing_limit») → ⊥
+  pub yes : r ≡ true → AgreedLimits self
+  pub no : r ≡ false → AgreedLimits self → ⊥
 
--- the channels are within the channel-max that the peer was told
-pub record ChannelsWithin (self : Endpoint) : Type 0 where
-  pub tied : TiedWithin (settingsOf self .channelMax) (tiesOf self)
-  pub agreed : AgreedWithin (settingsOf self .channelMax) (agreedOf self)
-
-pub record TellsWithin (self : Endpoint) (r : Bool) : Type 0 where
-  pub yes : r ≡ true → ChannelsWithin self
-  pub no : r ≡ false → ChannelsWithin self → ⊥
-
--- before the peer's Open the limits are the least, and nothing is agreed
-pub record Early (self : Endpoint) : Type 0 where
-  pub reading-first : self .«reading_limit» ≡ 512
-  pub writing-first : self .«writing_limit» ≡ 512
-  pub not-agreed : agreedOf self ≡ none
-
-pub record TellsEarly (self : Endpoint) (r : Bool) : Type 0 where
-  pub yes : r ≡ true → Early self
-  pub no : r ≡ false → Early self → ⊥
-
--- what there is not yet at a stage
-pub record AtStage (self : Endpoint) (stage : ℕ) : Type 0 where
-  pub early : stage ≡ 0 → Early self
-  pub untied : stage ≤ 1 → tiesOf self ≡ nowhere
-
-pub record TellsStage (self : Endpoint) (stage : ℕ) (r : Bool) : Type 0 where
-  pub yes : r ≡ true → AtStage self stage
-  pub no : r ≡ false → AtStage self stage → ⊥
+pub record TellsAgreed (self : Endpoint) (x : State) (m : ℕ) (r : Bool) : Type 0 where
+  pub yes : r ≡ true → agreedOf self ≡ some m → SharedBy (self .outgoing) → Agreed (settingsOf self) m (viewAs x self)
+  pub no : r ≡ false → Agreed (settingsOf self) m (viewAs x self) → ⊥
 
 pub record TellsReached (self : Endpoint) (x : State) (r : Bool) : Type 0 where
   pub yes : r ≡ true → SharedBy (self .outgoing) → Reached (settingsOf self) (viewAs x self)

@@ -27,7 +27,6 @@ ghost use Rattle.performatives.specs.Answers.{performativeSays, channelSays};
 ghost use Rattle.session_frame.specs.Session.{writeSession};
 ghost use Rattle.connection_state.specs.States.{Start, Opened};
 ghost use Rattle.connection_model.specs.Connection.{clamped, forwarded, given, sessionRead, begun, newSession, untie, passOn, tiedBy, decide, sendSessionFrame};
-ghost use Rattle.connection_model.specs.Sound.{stage};
 ghost use Rattle.connection_state.specs.Answers.{stateSays};
 ghost use Rattle.channels.specs.Channels.{heldSays, agreedMaxSays};
 ghost use Rattle.local_open.specs.Settings.{openSays};
@@ -50,7 +49,7 @@ ghost use Rattle.endpoint.specs.Answers.{
 };
 ghost use Rattle.endpoint.specs.Promises.{Steps, Sends, Begins, Agrees, Frees, Counts, ReadsEndpoint, WritesEndpoint};
 ghost use Rattle.endpoint.specs.Bytes.{roleNumber};
-ghost use Rattle.endpoint.specs.Parts.{headBytes, TellsLimits, TellsWithin, TellsEarly, TellsStage, TellsReached, ReadsLimit, ReadsTables, UnreadEndpoint, ReadsParts};
+ghost use Rattle.endpoint.specs.Parts.{headBytes, TellsUnopened, TellsLimits, TellsAgreed, TellsReached, ReadsLimit, ReadsTables, UnreadEndpoint, ReadsParts};
 ghost use Rattle.endpoint.specs.Outgoing.{Low, Ties, tiesAndWrites};
 
 // Who opened the transport: a dialler starts sessions only of its own, a listener also takes those that its peer starts.
@@ -214,28 +213,6 @@ fn refusal(frame: Frame) -> u8
             performative: _,
             end: _,
         } => 6,
-    }
-}
-
-// How far a connection in the state is: 0 before the peer's Open or Close, 1 with the peer's Open alone, and more after that.
-fn stage(state: ConnectionState) -> u8
-    ensures { λ r. ⌜ r ≡ stage (stateSays state) ⌝ }
-{
-    match state {
-        ConnectionState::Start => 0,
-        ConnectionState::HeaderReceived => 0,
-        ConnectionState::HeaderSent => 0,
-        ConnectionState::HeaderExchange => 0,
-        ConnectionState::OpenPipe => 0,
-        ConnectionState::OpenClosePipe => 0,
-        ConnectionState::OpenReceived => 1,
-        ConnectionState::OpenSent => 0,
-        ConnectionState::ClosePipe => 0,
-        ConnectionState::Opened => 2,
-        ConnectionState::CloseReceived => 3,
-        ConnectionState::CloseSent => 4,
-        ConnectionState::Discarding => 4,
-        ConnectionState::End => 4,
     }
 }
 
@@ -671,91 +648,67 @@ impl Endpoint {
         self
     }
 
-    // Whether the limits are those of a connection with these settings.
-    fn has_limits(self) -> bool
-        ensures { λ r. ⌜ TellsLimits self r ⌝ }
+    // Whether calls can lead to the endpoint without the peer's Open: everything is as it was at first.
+    fn is_unopened(self, state: ConnectionState) -> bool
+        ensures { λ r. ⌜ TellsUnopened self (stateSays state) r ⌝ }
     {
-        if self.writing_limit < MIN_MAX_FRAME_SIZE {
+        if state.is_after_open() {
             return false;
         }
-        if MAX_FRAME_SIZE < self.writing_limit {
-            return false;
-        }
-        if self.reading_limit == MIN_MAX_FRAME_SIZE {
-            return true;
-        }
-        let open = self.local_open;
-        let size = open.max_frame_size();
-        if self.reading_limit == size {
-            return true;
-        }
-        false
-    }
-
-    // Whether the tied channels and the agreed channel-max are at most the channel-max that the peer was told.
-    fn is_within(self) -> bool
-        ensures { λ r. ⌜ TellsWithin self r ⌝ }
-    {
-        let highest = self.channel_max();
-        let incoming = self.incoming;
-        if !incoming.are_below((highest as u16) + 1) {
-            return false;
-        }
-        let agreed = self.agreed_max();
-        let AgreedMax::Is(m) = agreed else {
-            return true;
-        };
-        if highest < m {
-            return false;
-        }
-        true
-    }
-
-    // Whether the limits are the least, and nothing is agreed.
-    fn is_early(self) -> bool
-        ensures { λ r. ⌜ TellsEarly self r ⌝ }
-    {
         if self.reading_limit != MIN_MAX_FRAME_SIZE {
             return false;
         }
         if self.writing_limit != MIN_MAX_FRAME_SIZE {
             return false;
         }
-        let agreed = self.agreed_max();
-        let AgreedMax::Absent = agreed else {
-            return false;
-        };
-        true
+        let incoming = self.incoming;
+        incoming.are_below(0)
     }
 
-    // Whether there is nothing that comes only after a stage.
-    fn is_at_stage(self, stage: u8) -> bool
-        ensures { λ r. ⌜ TellsStage self stage r ⌝ }
+    // Whether the limits are those that this end and its peer told each other.
+    fn has_agreed_limits(self) -> bool
+        ensures { λ r. ⌜ TellsLimits self r ⌝ }
     {
-        if 1 < stage {
-            return true;
-        }
-        let incoming = self.incoming;
-        if !incoming.are_below(0) {
+        let open = self.local_open;
+        if self.reading_limit != open.max_frame_size() {
             return false;
         }
-        if stage == 1 {
-            return true;
+        if self.writing_limit < MIN_MAX_FRAME_SIZE {
+            return false;
         }
-        self.is_early()
+        self.writing_limit <= MAX_FRAME_SIZE
+    }
+
+    // Whether calls can lead to the endpoint with this agreed channel-max. There are no ties before both Opens.
+    fn is_agreed(self, state: ConnectionState, agreed: u8) -> bool
+        ensures { λ r. ⌜ TellsAgreed self (stateSays state) agreed r ⌝ }
+    {
+        if state.is_before_open() {
+            return false;
+        }
+        if !self.has_agreed_limits() {
+            return false;
+        }
+        let highest = self.channel_max();
+        if highest < agreed {
+            return false;
+        }
+        let incoming = self.incoming;
+        if state.is_open_received() {
+            return incoming.are_below(0);
+        }
+        incoming.are_below((highest as u16) + 1)
     }
 
     // Whether calls can lead to the endpoint in a connection in this state, if its channel numbers keep the rule.
     fn is_reached(self, state: ConnectionState) -> bool
         ensures { λ r. ⌜ TellsReached self (stateSays state) r ⌝ }
     {
-        if !self.has_limits() {
-            return false;
+        let agreed = self.agreed_max();
+        match agreed {
+            AgreedMax::Absent => self.is_unopened(state),
+            AgreedMax::Is(m) => self.is_agreed(state, m),
         }
-        if !self.is_within() {
-            return false;
-        }
-        self.is_at_stage(stage(state))
     }
 
     // The endpoint that 3,095 bytes stand for, in a connection in this state.

@@ -1,70 +1,33 @@
--- The starred wall cases of document 01, as one table: a row has what the definitions compute and what document 01 says. The theorem `wall` is that the two columns are equal.
--- A header read: id, major, minor, revision, and 1 for AMQP 1.0.0, 0 for another protocol. A frame read: its size, its channel, and the descriptor of its
--- performative, if it is not empty. A frame written: its bytes. Calls on a dialler's connection: what the later ones of them answer, by `told`, and the number of the
--- state at the end.
--- Assumes nothing.
-use mathlib.Core.Path.{_≡_, refl}
-use mathlib.Core.List.{List, [], _∷_, _++_, map}
-use mathlib.Core.Option.{Option, none, some}
-use mathlib.Core.Bool.{cond}
+-- The starred wall cases of document 01, of calls on a dialler's connection: what they answer and the state that they leave, or what they write into the lent output.
+-- proofs/Wall.antt computes them.
+-- Assumes nothing: these are definitions.
+use mathlib.Core.Path.{_≡_}
+use mathlib.Core.List.{List, [], _∷_, _++_}
+use mathlib.Core.Option.{none}
 use Prim.Native.Nat.{ℕ}
-use lib.ListN.{replicate, drop, length}
-use Rattle.octets.specs.Verdict.{Verdict, refuse, accept, require, andThen}
-use Rattle.octets.specs.Octets.{bigEndianFrom, bigEndian, bytesOf, startsWith}
-use Rattle.octets.specs.Output.{roomFor}
-use Rattle.protocol_header.specs.Header.{ProtocolHeader, isProtocolId, protocolId, startsWith as startsWithAll, header, hasId, isAmqp100, protocol, received, headerBytes}
-use Rattle.values.specs.Value.{plus, followedBy, times, codes, kindIn, kindOf, bytes, numberIn, booleanEnd, variableEnd, pairedIn, opening as openingOf, items, compoundEnd, body, afterCode, level, run as runOf, valueEnd}
-use Rattle.performatives.specs.Fields.{fieldsIn, fieldsOf}
-use Rattle.performatives.specs.Performative.{Performative, numberOf, sized, listAt, descriptor, described, split, errorShape, isError, hasType, fits, fit, fieldsBy, rowsFor, performativeBy, performative, numberOr, remoteChannel, startOf, conditionAt, condition}
-use Rattle.frame_decoder.specs.Frame.{frame, bodyIn, content, readFrame}
-use Rattle.serializer.specs.Written.{uint, ushort, textHeader, text, listHeader, joined, trimmed, compositeHeader, composite}
-use Rattle.frame_encoder.specs.Frames.{Settings, frameHeader, frameBytes, limited, idleField, openFields, openBody, errorField, closeBody}
-use Rattle.connection_state.specs.States.{numbered}
-use Rattle.connection_model.specs.Connection.{dialler, fresh, Call, sendHeaderTo, receiveHeaderFrom, sendOpenTo, receiveFrame, sendCloseTo, allocate, deallocate, Answer, wrote, stop, header as headerCame, otherProtocol, nothingToDo, opened, closed, forward, began, channel, freed, Seen, run, seenIn}
+use lib.ListN.{replicate, drop}
+use Rattle.octets.specs.Verdict.{Verdict, refuse, accept}
+use Rattle.frame_encoder.specs.Frames.{Settings}
+use Rattle.connection_state.specs.States.{State, HeaderSent, HeaderExchange, Opened, End}
+use Rattle.connection_model.specs.Connection.{dialler, Connection, fresh, Call, sendHeaderTo, receiveHeaderFrom, sendOpenTo, receiveFrame, sendCloseTo, allocate, deallocate, Answer, wrote, header, otherProtocol, nothingToDo, forward, channel, freed, Seen, seen, run, seenIn}
 
-abbrev descriptorOf : Option Performative → List ℕ
-descriptorOf none = []
-descriptorOf (some p) = p .code ∷ []
-
-abbrev pub headerRead : List ℕ → Verdict (List ℕ)
-headerRead s = andThen (header s) (λ h. accept (h .id ∷ h .major ∷ h .minor ∷ h .revision ∷ cond (isAmqp100 h) 1 0 ∷ []))
-
-abbrev pub frameRead : ℕ → List ℕ → Verdict (List ℕ)
-frameRead limit s = andThen (readFrame limit 255 s) (λ r. accept (r .0 .size ∷ r .0 .channel ∷ descriptorOf (r .1)))
-
--- 0 and the number of a refusal; 1 and a channel; 2 and a handle that is freed; 3 and a handle to which a frame goes; 4 for another protocol; 5 for any other answer
-abbrev pub told : Verdict Answer → List ℕ
-told (refuse k) = 0 ∷ k ∷ []
-told (accept (wrote n)) = 5 ∷ []
-told (accept stop) = 5 ∷ []
-told (accept (headerCame n)) = 5 ∷ []
-told (accept (otherProtocol n)) = 4 ∷ []
-told (accept (nothingToDo n)) = 5 ∷ []
-told (accept (opened n m)) = 5 ∷ []
-told (accept (closed n e)) = 5 ∷ []
-told (accept (forward n code h from size)) = 3 ∷ h ∷ []
-told (accept (began n ch h from size)) = 3 ∷ h ∷ []
-told (accept (channel n)) = 1 ∷ n ∷ []
-told (accept (freed h)) = 2 ∷ h ∷ []
-
-abbrev pub toldAll : List Seen → List ℕ
-toldAll [] = []
-toldAll (s ∷ ss) = told (s .answer) ++ toldAll ss
+-- ---- what is sent and read
 
 -- container p1, max-frame-size 4096, channel-max 7, no idle-time-out
 abbrev pub p1 : Settings
 p1 = record { containerId = 0x70 ∷ 0x31 ∷ []; maxFrameSize = 4096; channelMax = 7; idleTimeOut = none }
 
--- after the calls `before`, those of `calls`
-abbrev pub history : List Call → List Call → Verdict (List ℕ)
-history before calls =
-    accept (toldAll (drop (length before) (seenIn dialler p1 fresh (before ++ calls))) ++ numbered ((run dialler p1 fresh (before ++ calls)) .state) ∷ [])
-
+-- the lent output before a call
 unfoldable pub out : List ℕ
-out = replicate 16384 0
+out = replicate 16384 0xEE
 
+-- 414D5150 with an id, version 1.0.0
 unfoldable pub amqp : ℕ → List ℕ
 amqp id = 0x41 ∷ 0x4D ∷ 0x51 ∷ 0x50 ∷ id ∷ 0x01 ∷ 0x00 ∷ 0x00 ∷ []
+
+-- eight bytes of a frame on channel 0, with the two lower bytes of its length
+unfoldable pub firstEight : ℕ → ℕ → List ℕ
+firstEight high low = 0x00 ∷ 0x00 ∷ high ∷ low ∷ 0x02 ∷ 0x00 ∷ 0x00 ∷ 0x00 ∷ []
 
 -- the peer's Open: container-id h, channel-max 3
 unfoldable pub peerOpen : List ℕ
@@ -77,54 +40,75 @@ begin = 0x00 ∷ 0x00 ∷ 0x00 ∷ 0x14 ∷ 0x02 ∷ 0x00 ∷ 0x00 ∷ 0x05 ∷ 
 unfoldable pub attach : List ℕ
 attach = 0x00 ∷ 0x00 ∷ 0x00 ∷ 0x0C ∷ 0x02 ∷ 0x00 ∷ 0x00 ∷ 0x05 ∷ 0x00 ∷ 0x53 ∷ 0x12 ∷ 0x45 ∷ []
 
-unfoldable pub headerSent : List Call
-headerSent = sendHeaderTo out ∷ []
+-- ---- connections
 
-unfoldable pub opening : List Call
-opening = sendHeaderTo out ∷ receiveHeaderFrom (amqp 0) ∷ sendOpenTo out ∷ receiveFrame peerOpen 0 ∷ []
+abbrev pub headerSent : Connection
+headerSent = run dialler p1 fresh (sendHeaderTo out ∷ [])
 
-unfoldable pub fourTaken : List Call
-fourTaken = opening ++ (allocate 10 ∷ allocate 11 ∷ allocate 12 ∷ allocate 13 ∷ [])
+-- the reading limit is 512 until the peer's Open
+abbrev pub headerExchanged : Connection
+headerExchanged = run dialler p1 headerSent (receiveHeaderFrom (amqp 0x00) ∷ [])
 
-pub record Row : Type 0 where
-  pub computed : Verdict (List ℕ)
-  pub said : Verdict (List ℕ)
+abbrev pub bothOpen : Connection
+bothOpen = run dialler p1 headerExchanged (sendOpenTo out ∷ receiveFrame peerOpen 0 ∷ [])
 
-infix 5 _is_
-abbrev pub _is_ : Verdict (List ℕ) → Verdict (List ℕ) → Row
-a is b = record { computed = a; said = b }
+-- 0 to 3, by the handles 10 to 13
+abbrev pub fourTaken : Connection
+fourTaken = run dialler p1 bothOpen (allocate 10 ∷ allocate 11 ∷ allocate 12 ∷ allocate 13 ∷ [])
 
-unfoldable pub table : List Row
-table =
-    -- 414D5150 00010000 is AMQP 1.0.0; with id 03 another protocol; with id 01 malformed
-    (headerRead (0x41 ∷ 0x4D ∷ 0x51 ∷ 0x50 ∷ 0x00 ∷ 0x01 ∷ 0x00 ∷ 0x00 ∷ []) is accept (0 ∷ 1 ∷ 0 ∷ 0 ∷ 1 ∷ []))
-    ∷ (headerRead (0x41 ∷ 0x4D ∷ 0x51 ∷ 0x50 ∷ 0x03 ∷ 0x01 ∷ 0x00 ∷ 0x00 ∷ []) is accept (3 ∷ 1 ∷ 0 ∷ 0 ∷ 0 ∷ []))
-    ∷ (headerRead (0x41 ∷ 0x4D ∷ 0x51 ∷ 0x50 ∷ 0x01 ∷ 0x01 ∷ 0x00 ∷ 0x00 ∷ []) is refuse 2)
-    -- in HeaderSent: HeaderExchange; "other protocol", End; 2, still HeaderSent
-    ∷ (history headerSent (receiveHeaderFrom (amqp 0) ∷ []) is accept (5 ∷ 3 ∷ []))
-    ∷ (history headerSent (receiveHeaderFrom (amqp 3) ∷ []) is accept (4 ∷ 13 ∷ []))
-    ∷ (history headerSent (receiveHeaderFrom (amqp 1) ∷ []) is accept (0 ∷ 2 ∷ 2 ∷ []))
-    -- 00000008 02000000 is an empty frame; with length 7 it is 3
-    ∷ (frameRead 512 (0x00 ∷ 0x00 ∷ 0x00 ∷ 0x08 ∷ 0x02 ∷ 0x00 ∷ 0x00 ∷ 0x00 ∷ []) is accept (8 ∷ 0 ∷ []))
-    ∷ (frameRead 512 (0x00 ∷ 0x00 ∷ 0x00 ∷ 0x07 ∷ 0x02 ∷ 0x00 ∷ 0x00 ∷ 0x00 ∷ []) is refuse 3)
-    -- limit 512: length 512 wants more bytes, 513 is 4
-    ∷ (frameRead 512 (0x00 ∷ 0x00 ∷ 0x02 ∷ 0x00 ∷ 0x02 ∷ 0x00 ∷ 0x00 ∷ 0x00 ∷ []) is refuse 1)
-    ∷ (frameRead 512 (0x00 ∷ 0x00 ∷ 0x02 ∷ 0x01 ∷ 0x02 ∷ 0x00 ∷ 0x00 ∷ 0x00 ∷ []) is refuse 4)
-    -- local channel-max 7, the peer's 3: 0, 1, 2, 3, then 23. Free 1, then 3: next 3, then 1
-    ∷ (history opening (allocate 10 ∷ allocate 11 ∷ allocate 12 ∷ allocate 13 ∷ allocate 14 ∷ [])
-    is accept (1 ∷ 0 ∷ 1 ∷ 1 ∷ 1 ∷ 2 ∷ 1 ∷ 3 ∷ 0 ∷ 23 ∷ 9 ∷ []))
-    ∷ (history fourTaken (deallocate 1 ∷ deallocate 3 ∷ allocate 15 ∷ allocate 16 ∷ []) is accept (2 ∷ 11 ∷ 2 ∷ 13 ∷ 1 ∷ 3 ∷ 1 ∷ 1 ∷ 9 ∷ []))
-    -- Begin on 5 for 2, free 2: Attach on 5 still reaches the old handle; Begin for 2 gives 24
-    ∷ (history fourTaken (receiveFrame begin 0 ∷ deallocate 2 ∷ receiveFrame attach 0 ∷ receiveFrame begin 0 ∷ [])
-    is accept (3 ∷ 12 ∷ 2 ∷ 12 ∷ 3 ∷ 12 ∷ 0 ∷ 24 ∷ 9 ∷ []))
-    -- an Open, and a Close without an error
-    ∷ (accept (frameBytes 0 (openBody p1))
-    is accept
+-- ---- what calls come to
+
+pub record Drawn : Type 0 where
+  pub answers : List (Verdict Answer)
+  pub state : State
+
+abbrev pub answersOf : List Seen → List (Verdict Answer)
+answersOf [] = []
+answersOf (s ∷ ss) = s .answer ∷ answersOf ss
+
+abbrev pub drawn : Connection → List Call → Drawn
+drawn c calls = record { answers = answersOf (seenIn dialler p1 c calls); state = (run dialler p1 c calls) .state }
+
+infix 5 _leaving_
+abbrev pub _leaving_ : List (Verdict Answer) → State → Drawn
+answers leaving x = record { answers = answers; state = x }
+
+-- n bytes are written at the front of the output, and behind them it is as it was
+abbrev pub writing : ℕ → List ℕ → Seen
+writing n bytes = record { answer = accept (wrote n); output = bytes ++ drop n out }
+
+-- ---- the cases
+
+abbrev pub Wall : Type 0
+Wall =
+    -- HeaderSent, 414D5150 00010000: HeaderExchange
+    (drawn headerSent (receiveHeaderFrom (amqp 0x00) ∷ []) ≡ ((accept (header 8) ∷ []) leaving HeaderExchange))
+    -- with id 03: "other protocol", End
+    × (drawn headerSent (receiveHeaderFrom (amqp 0x03) ∷ []) ≡ ((accept (otherProtocol 8) ∷ []) leaving End))
+    -- with id 01: 2, still HeaderSent
+    × (drawn headerSent (receiveHeaderFrom (amqp 0x01) ∷ []) ≡ ((refuse 2 ∷ []) leaving HeaderSent))
+    -- 00000008 02000000: nothing to do
+    × (drawn headerExchanged (receiveFrame (firstEight 0x00 0x08) 0 ∷ []) ≡ ((accept (nothingToDo 8) ∷ []) leaving HeaderExchange))
+    -- length 7: 3
+    × (drawn headerExchanged (receiveFrame (firstEight 0x00 0x07) 0 ∷ []) ≡ ((refuse 3 ∷ []) leaving HeaderExchange))
+    -- limit 512: length 512 wants more bytes (1)
+    × (drawn headerExchanged (receiveFrame (firstEight 0x02 0x00) 0 ∷ []) ≡ ((refuse 1 ∷ []) leaving HeaderExchange))
+    -- 513 gives 4
+    × (drawn headerExchanged (receiveFrame (firstEight 0x02 0x01) 0 ∷ []) ≡ ((refuse 4 ∷ []) leaving HeaderExchange))
+    -- container p1, 4096, channel-max 7, no idle: 0000001B 02000000 005310 C00E04 A1027031 40 7000001000 600007
+    × (seen dialler p1 headerExchanged (sendOpenTo out)
+    ≡ writing 27
     (0x00 ∷ 0x00 ∷ 0x00 ∷ 0x1B ∷ 0x02 ∷ 0x00 ∷ 0x00 ∷ 0x00 ∷ 0x00 ∷ 0x53 ∷ 0x10 ∷ 0xC0 ∷ 0x0E ∷ 0x04 ∷ 0xA1 ∷ 0x02 ∷ 0x70 ∷ 0x31 ∷ 0x40
     ∷ 0x70 ∷ 0x00 ∷ 0x00 ∷ 0x10 ∷ 0x00 ∷ 0x60 ∷ 0x00 ∷ 0x07 ∷ []))
-    ∷ (accept (frameBytes 0 (closeBody none)) is accept (0x00 ∷ 0x00 ∷ 0x00 ∷ 0x0C ∷ 0x02 ∷ 0x00 ∷ 0x00 ∷ 0x00 ∷ 0x00 ∷ 0x53 ∷ 0x18 ∷ 0x45 ∷ []))
-    ∷ []
-
-pub wall : map (λ r. r .computed) table ≡ map (λ r. r .said) table
-unfolding table out amqp peerOpen begin attach headerSent opening fourTaken require andThen bigEndianFrom bigEndian bytesOf startsWith roomFor isProtocolId protocolId startsWithAll header hasId isAmqp100 protocol received headerBytes plus followedBy times codes kindIn kindOf bytes numberIn booleanEnd variableEnd pairedIn openingOf items compoundEnd body afterCode level runOf valueEnd fieldsIn fieldsOf numberOf sized listAt descriptor described split errorShape isError hasType fits fit fieldsBy rowsFor performativeBy performative numberOr remoteChannel startOf conditionAt condition frame bodyIn content readFrame uint ushort textHeader text listHeader joined trimmed compositeHeader composite frameHeader frameBytes limited idleField openFields errorField
-wall = refl
+    -- local 7, peer 3: 0, 1, 2, 3, then 23
+    × (drawn bothOpen (allocate 10 ∷ allocate 11 ∷ allocate 12 ∷ allocate 13 ∷ allocate 14 ∷ [])
+    ≡ ((accept (channel 0) ∷ accept (channel 1) ∷ accept (channel 2) ∷ accept (channel 3) ∷ refuse 23 ∷ []) leaving Opened))
+    -- free 1, then 3: next 3, then 1
+    × (drawn fourTaken (deallocate 1 ∷ deallocate 3 ∷ allocate 15 ∷ allocate 16 ∷ [])
+    ≡ ((accept (freed 11) ∷ accept (freed 13) ∷ accept (channel 3) ∷ accept (channel 1) ∷ []) leaving Opened))
+    -- Begin on 5 for r = 2, free 2: Attach on 5 still reaches the old handle; Begin for 2 gives 24
+    × (drawn fourTaken (receiveFrame begin 0 ∷ deallocate 2 ∷ receiveFrame attach 0 ∷ receiveFrame begin 0 ∷ [])
+    ≡ ((accept (forward 20 17 12 8 12) ∷ accept (freed 12) ∷ accept (forward 12 18 12 8 4) ∷ refuse 24 ∷ []) leaving Opened))
+    -- Close without error: 0000000C 02000000 005318 45
+    × (seen dialler p1 bothOpen (sendCloseTo none out)
+    ≡ writing 12 (0x00 ∷ 0x00 ∷ 0x00 ∷ 0x0C ∷ 0x02 ∷ 0x00 ∷ 0x00 ∷ 0x00 ∷ 0x00 ∷ 0x53 ∷ 0x18 ∷ 0x45 ∷ []))
