@@ -1,5 +1,6 @@
 #!/usr/bin/env bash
-# Tests of the C side: the headers as C and as C++, the example, the tests through C (under valgrind too), the frame reader, and the example hub against its stored output.
+# Tests of the C side: the headers as C and as C++, the example, the tests through C (under valgrind too), the frame reader, and the example hub against its stored output
+# and with damaged pads.
 # Usage: tests/c.sh [ARCHIVE]; without ARCHIVE the library is built by rt, with the kit that keeps the module of it for tests/fuzz.sh. Installs gcc, g++ and valgrind where they are missing.
 # The last line is 'c.sh: N parts passed', and the exit status 0, where nothing was wrong.
 set -euo pipefail
@@ -57,5 +58,8 @@ passed "the frame reader, beside the engine"
 "$work/hub" examples/pads.amqp | diff - examples/hub.out
 valgrind --error-exitcode=1 -q "$work/hub" examples/pads.amqp | diff - examples/hub.out
 passed "the hub counts what its stored output has"
+
+python3 tests/bad_pads.py "$work/hub"
+passed "a pad that is damaged ends its own line only"
 
 echo "c.sh: $parts parts passed"
