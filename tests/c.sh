@@ -13,10 +13,10 @@ work=target/c
 mkdir -p "$work"
 if [ $# -eq 0 ]; then
     archive=target/staticlib/libhisproat.a
-    RATTLE_HOME="$(bash tests/fuzz.sh kit)" rt staticlib hisproat > "$work/staticlib.log" 2>&1 || { cat "$work/staticlib.log" >&2; exit 1; }
+    RATTLE_HOME="$(bash tests/fuzz.sh kit)" tests/prove.sh staticlib hisproat
 fi
 reader=target/staticlib/libframe_reader.a
-rt staticlib frame_reader > "$work/reader.log" 2>&1 || { cat "$work/reader.log" >&2; exit 1; }
+tests/prove.sh staticlib frame_reader
 warnings=(-Wall -Wextra -Werror -pedantic -Iinclude)
 parts=0
 
