@@ -58,7 +58,7 @@ typedef struct {
     Line lines[PADS];
     Session sessions[SESSIONS];
     uint32_t session_count;
-    uint8_t output[HISPROAT_OUTPUT_ROOM + 2 * MAX_FRAME];
+    uint8_t output[HISPROAT_OUTPUT_ROOM];
     uint8_t answer[HISPROAT_ANSWER_SIZE];
 } Hub;
 

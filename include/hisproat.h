@@ -14,9 +14,9 @@
  *             It has no pointers inside: it may be moved, copied, kept in storage and brought back. A copy is another engine that stands where the first one stood.
  *             Every call checks it from the first byte to the last. Bytes that are not a sound engine are refused with 8 and left as they are.
  *   input     bytes that are only read: a frame, waiting frames, a header, a text.
- *   output    where frames are written. At least hisproat_room(n) bytes, where n is how many bytes of session frames are lent to the same call (the frame
- *             of hisproat_on_outgoing, or the waiting frames); less is refused with 9, also where nothing would be written. What was written stands
- *             at the front. The bytes after it are not touched.
+ *   output    where frames are written. At least HISPROAT_OUTPUT_ROOM bytes, whatever the length of a frame that you lend; where waiting frames are lent to the same
+ *             call, hisproat_room(n), n being how many bytes of them there are. Less is refused with 9, also where nothing would be written. What was written
+ *             stands at the front. The bytes after it are not touched.
  *   answer    where the answer goes: at least HISPROAT_ANSWER_SIZE, HISPROAT_STATUS_SIZE or HISPROAT_HANDLE_SIZE bytes; less is refused with 9. Only so
  *             many are written.
  *
@@ -27,7 +27,8 @@
  * WHAT COMES BACK
  *
  * Every function returns 0, or the number of a refusal (HISPROAT_REFUSED_..). A refusal changes no lent byte: state, output and answer are as they were, and
- * the call may be made again. The order of judgement is: the state (8), the size of the answer (9), then what is said at each function.
+ * the call may be made again. Refusals are named at each function in the order of judgement: first the sizes of output and answer (9), from their lengths alone and
+ * whatever the state's bytes are; then the state (8); then the rest.
  *
  * On 0 the answer of an event tells, at these places, numbers big-endian:
  *
@@ -133,7 +134,7 @@ enum {
     HISPROAT_ANSWER_SIZE = 42,   /* an event's answer */
     HISPROAT_STATUS_SIZE = 16,   /* the answer of hisproat_status */
     HISPROAT_HANDLE_SIZE = 5,    /* the answer of hisproat_handle_at and hisproat_tied_handle */
-    HISPROAT_OUTPUT_ROOM = 16384 /* the least output; hisproat_room has what waiting frames add */
+    HISPROAT_OUTPUT_ROOM = 16384 /* the least output, and the longest frame that is written; hisproat_room has what waiting frames add */
 };
 
 /* ---- Limits of the settings and of an error's texts. What is beyond them is refused with 8. */
@@ -285,14 +286,15 @@ uint8_t hisproat_listener(uint8_t *state, size_t state_len, const uint8_t *conta
 
 /* ---- Before the first frame */
 
-/* Writes the protocol header, 8 bytes. Kind WROTE. Refusals: 9, 20. */
+/* Writes the protocol header, 8 bytes. Kind WROTE. Refusals: 9, 8, 20. */
 uint8_t hisproat_send_header(uint8_t *state, size_t state_len, uint8_t *output, size_t output_len, uint8_t *answer, size_t answer_len);
 
-/* Reads a protocol header at the front of the input, and consumes 8 bytes. Kinds HEADER, OTHER_PROTOCOL. Refusals: 20 (phase), 1, 2, 20 (state).
+/* Reads a protocol header at the front of the input, and consumes 8 bytes. Kinds HEADER, OTHER_PROTOCOL. Refusals: 9, 8, 20 (phase), 1, 2,
+ * 20 (state).
  * A malformed header (2) leaves the engine as it was. */
 uint8_t hisproat_receive_header(uint8_t *state, size_t state_len, const uint8_t *input, size_t input_len, uint8_t *answer, size_t answer_len);
 
-/* Writes the Open that the settings make. Kind WROTE. Refusals: 9, 20. */
+/* Writes the Open that the settings make. Kind WROTE. Refusals: 9, 8, 20. */
 uint8_t hisproat_send_open(uint8_t *state, size_t state_len, uint8_t *output, size_t output_len, uint8_t *answer, size_t answer_len);
 
 /* ---- Events */
@@ -306,51 +308,52 @@ uint8_t hisproat_send_open(uint8_t *state, size_t state_len, uint8_t *output, si
  * REFUSED: the frame is wrong. With the detail 3 to 7 the engine has stopped with TRANSPORT_ERROR. With 20, 24 or 25 it has written a Close that tells the peer
  * and now awaits the peer's Close, or, where there is nothing to close, it has stopped. While awaiting, a frame that is wrong stops it.
  * Consumed: the frame's length; 0 with the details 3 and 4, where it is not known where the next frame starts.
- * Refusals: 9, 20 (stopped), 1 (call again with more bytes), then those of the waiting frames: 1, 3, 5, 6, 7. */
+ * Refusals: 9, 8, 20 (stopped), 1 (call again with more bytes), then those of the waiting frames: 1, 3, 5, 6, 7. */
 uint8_t hisproat_on_incoming(uint8_t *state, size_t state_len, const uint8_t *frame, size_t frame_len, uint32_t spare, const uint8_t *waiting,
                              size_t waiting_len, uint8_t *output, size_t output_len, uint8_t *answer, size_t answer_len);
 
 /* An order to close. Writes the waiting frames and then a Close. The engine goes on running until the peer's Close comes.
  * Output: hisproat_room(waiting_len). Kind WROTE, or REFUSED: a waiting frame or the Close could not go out, as at hisproat_on_outgoing; what was written
  * before it is written.
- * Refusals: 9, 20 (phase), then those of the waiting frames: 1, 3, 5, 6, 7. */
+ * Refusals: 9, 8, 20 (phase), then those of the waiting frames: 1, 3, 5, 6, 7. */
 uint8_t hisproat_on_close(uint8_t *state, size_t state_len, const uint8_t *waiting, size_t waiting_len, uint8_t *output, size_t output_len,
                           uint8_t *answer, size_t answer_len);
 
 /* The same with an error: its condition in ASCII and, where has_description is not 0, its description in UTF-8. From then on only the peer's Close is looked at.
- * Refusals: 9, 8 (a text), 20 (phase), then those of the waiting frames. */
+ * Refusals: 9, 8 (the state or a text), 20 (phase), then those of the waiting frames. */
 uint8_t hisproat_on_close_with_error(uint8_t *state, size_t state_len, const uint8_t *condition, size_t condition_len, uint8_t has_description,
                                      const uint8_t *description, size_t description_len, const uint8_t *waiting, size_t waiting_len,
                                      uint8_t *output, size_t output_len, uint8_t *answer, size_t answer_len);
 
-/* Takes an outgoing channel for the session `handle`. Kind CHANNEL. Refusals: 20 (phase), 22, 21, 23. */
+/* Takes an outgoing channel for the session `handle`. Kind CHANNEL. Refusals: 9, 8, 20 (phase), 22, 21, 23. */
 uint8_t hisproat_on_allocate(uint8_t *state, size_t state_len, uint32_t handle, uint8_t *answer, size_t answer_len);
 
-/* Frees an outgoing channel. Kind FREED. Incoming ties stay as they are. Refusals: 20 (phase), 26. */
+/* Frees an outgoing channel. Kind FREED. Incoming ties stay as they are. Refusals: 9, 8, 20 (phase), 26. */
 uint8_t hisproat_on_deallocate(uint8_t *state, size_t state_len, uint16_t channel, uint8_t *answer, size_t answer_len);
 
 /* A session's frame goes out: one whole frame with its outgoing channel; bytes after it are not looked at. It is written in its shortest form, so the bytes may
  * differ from those lent. A listener's Begin that has a remote-channel ties that incoming channel to the handle of the channel that it is sent on.
- * Output: hisproat_room(frame_len). Kind WROTE, or REFUSED: with the detail 27 the engine has stopped with TRANSPORT_ERROR; with 20 (not opened, or closed
- * already) or 24 (a listener's Begin on a channel that is not taken) as at hisproat_on_incoming.
- * Refusals: 9, 20 (phase), then those of the frame: 1, 3, 5, 6, 7. */
+ * Output: HISPROAT_OUTPUT_ROOM, however long the frame is: one that would be longer is not written (27).
+ * Kind WROTE, or REFUSED: with the detail 27 the engine has stopped with TRANSPORT_ERROR; with 20 (not opened, or closed already) or 24 (a listener's Begin on a
+ * channel that is not taken) as at hisproat_on_incoming.
+ * Refusals: 9, 8, 20 (phase), then those of the frame: 1, 3, 5, 6, 7. */
 uint8_t hisproat_on_outgoing(uint8_t *state, size_t state_len, const uint8_t *frame, size_t frame_len, uint8_t *output, size_t output_len,
                              uint8_t *answer, size_t answer_len);
 
 /* Time to show that this side is there: writes an empty frame; 0 bytes in the states START and CLOSE_SENT. Kind WROTE, or, where the connection is over, END: the
- * engine has stopped. Refusals: 9, 20 (phase). */
+ * engine has stopped. Refusals: 9, 8, 20 (phase). */
 uint8_t hisproat_on_tick(uint8_t *state, size_t state_len, uint8_t *output, size_t output_len, uint8_t *answer, size_t answer_len);
 
 /* No more bytes will come. The engine has stopped. Where an Open was sent and no Close, a Close with an error is written, for a peer that still reads.
- * Kind NONE. Refusals: 9, 20 (stopped). */
+ * Kind NONE. Refusals: 9, 8, 20 (stopped). */
 uint8_t hisproat_on_end_of_input(uint8_t *state, size_t state_len, uint8_t *output, size_t output_len, uint8_t *answer, size_t answer_len);
 
 /* A body could not be handed to its session (NOT_FOUND), or, where new_session is not 0, a session that the peer began (a listener's) could not be taken
- * (NOT_IMPLEMENTED). Writes a Close that tells the peer, and awaits the peer's. Kind NONE. Refusals: 9, 20 (phase). */
+ * (NOT_IMPLEMENTED). Writes a Close that tells the peer, and awaits the peer's. Kind NONE. Refusals: 9, 8, 20 (phase). */
 uint8_t hisproat_on_not_delivered(uint8_t *state, size_t state_len, uint8_t new_session, uint8_t *output, size_t output_len, uint8_t *answer,
                                   size_t answer_len);
 
-/* ---- Readers. They change nothing but the answer. Refusals: 8, 9. */
+/* ---- Readers. They change nothing but the answer. Refusals: 9, 8. */
 
 /* What the engine is: HISPROAT_STATUS_AT_.. */
 uint8_t hisproat_status(const uint8_t *state, size_t state_len, uint8_t *answer, size_t answer_len);
@@ -363,10 +366,11 @@ uint8_t hisproat_tied_handle(const uint8_t *state, size_t state_len, uint16_t ch
 
 /* ---- Small helpers, not in the archive */
 
-/* The output that a call asks for when so many bytes of session frames are lent to it. */
-static inline size_t hisproat_room(size_t lent)
+/* The output that hisproat_on_incoming, hisproat_on_close and hisproat_on_close_with_error ask for when so many bytes of waiting frames are lent to them. Each of these
+ * frames is written in at most twice its bytes. */
+static inline size_t hisproat_room(size_t waiting_len)
 {
-    return (size_t)HISPROAT_OUTPUT_ROOM + 2 * lent;
+    return (size_t)HISPROAT_OUTPUT_ROOM + 2 * waiting_len;
 }
 
 /* The big-endian number of `width` bytes, at most 8, that starts at `at`. */

@@ -479,14 +479,16 @@ static void every_event(Tally *t)
             refused(&late, order, 20, "every other event of an engine that awaits a Close");
         order.answer_short = 1;
         refused(&fresh, order, 9, "an answer of 41 bytes");
-        refused(&broken, order, 8, "8 for the state comes before 9 for the answer");
+        refused(&broken, order, 9, "9 for the answer comes before 8 for the state");
+        refused(&over, order, 9, "9 for the answer comes before 20");
         order.answer_short = HISPROAT_ANSWER_SIZE;
         refused(&fresh, order, 9, "an answer of no bytes");
         order.answer_short = 0;
         order.output_short = 1;
         if (writes((Event)i)) {
             refused(&fresh, order, 9, "an output that is a byte too small");
-            refused(&over, order, 9, "9 comes before 20");
+            refused(&broken, order, 9, "9 for the output comes before 8 for the state");
+            refused(&over, order, 9, "9 for the output comes before 20");
         }
     }
     drop_engine(&fresh);
@@ -642,6 +644,48 @@ static void too_long(Tally *t)
     free(longer);
 }
 
+/* A lone frame asks for 16,384 bytes of output, however long it is. */
+static void too_long_for_any(Tally *t)
+{
+    static const size_t LONG[] = { 16384, 16385, 20000, 65535 };
+    Piece open_of_all = frame(0, "005310 C0 0A 03 A10168 40 70FFFFFFFF");
+    for (size_t i = 0; i < sizeof LONG / sizeof LONG[0]; i++) {
+        uint8_t *bytes = long_transfer(LONG[i]);
+        Order order = { .event = ON_OUTGOING, .input = { bytes, LONG[i] }, .output_short = 1 };
+        Engine e = new_engine(t, 0, p1());
+        open_with(&e, of(&open_of_all));
+        refused(&e, order, 9, "16,383 bytes of output");
+        order.output_short = 0;
+        Said said = perform(&e, order);
+        if (LONG[i] <= 16384) {
+            check(t, said.kind == HISPROAT_KIND_WROTE && same(wire(&e), order.input), "the longest frame, into 16,384 bytes");
+            drop_engine(&e);
+        } else {
+            check(t, said.kind == HISPROAT_KIND_REFUSED && said.detail == HISPROAT_REFUSED_OVER_WRITING_LIMIT, "a longer one is judged, and is 27");
+            ends_with(&e, said, HISPROAT_OUTCOME_TRANSPORT_ERROR, "a frame that is too long to send");
+        }
+        free(bytes);
+    }
+}
+
+/* Waiting frames ask for twice their bytes besides, and for no byte more. */
+static void waiting_room(Tally *t)
+{
+    Piece close = frame(0, CLOSE), waiting = joined(frame(0, TRANSFER), frame(0, END)), all = joined(waiting, close);
+    Order orders[] = { { .event = ON_INCOMING, .input = of(&close) }, { .event = ON_CLOSE }, { .event = ON_CLOSE_WITH_ERROR, .input = text("a:b") } };
+    for (size_t i = 0; i < 3; i++) {
+        Engine e = opened(t, 1);
+        Order order = orders[i];
+        order.waiting = of(&waiting);
+        order.output_short = 1;
+        refused(&e, order, 9, "a byte less than 16,384 and twice the waiting frames");
+        order.output_short = 0;
+        Said said = perform(&e, order);
+        check(t, said.refused == 0 && e.wire_len > waiting.len && memcmp(e.wire, all.at, waiting.len) == 0, "the waiting frames go out");
+        drop_engine(&e);
+    }
+}
+
 /* Waiting frames that cannot be sent: those before them go out, and the error path decides the rest. */
 static void waiting_unsent(Tally *t)
 {
@@ -679,6 +723,8 @@ static void transport_error(Tally *t)
         ends_with(&e, said, HISPROAT_OUTCOME_TRANSPORT_ERROR, "a frame that cannot be read");
     }
     too_long(t);
+    too_long_for_any(t);
+    waiting_room(t);
     waiting_unsent(t);
     Engine e = awaiting(t);
     ends_with(&e, end_of_input(&e), HISPROAT_OUTCOME_TRANSPORT_ERROR, "the input ends while the peer's Close is awaited");
@@ -779,14 +825,20 @@ static void state_size(Tally *t, size_t len, uint8_t returned)
     give_back(t, &id);
 }
 
-/* A sound engine's bytes, cut off or with a byte behind them, are refused by each event too. */
+/* A sound engine's bytes, cut off or with a byte behind them, are refused by each event too, after a small answer or output. */
 static void other_length(Tally *t, size_t len)
 {
     Engine whole = new_engine(t, 0, p1()), other = { .tally = t, .state = lend_pattern(t, len) };
     Piece header = hex(HEADER), transfer = frame(0, TRANSFER);
     memcpy(other.state.at, whole.state.at, len < whole.state.len ? len : whole.state.len);
-    for (int i = 0; i < EVENTS; i++)
-        refused(&other, any_order((Event)i, &header, &transfer), 8, "an event on a state of another size");
+    for (int i = 0; i < EVENTS; i++) {
+        Order order = any_order((Event)i, &header, &transfer);
+        refused(&other, order, 8, "an event on a state of another size");
+        order.output_short = 1;
+        refused(&other, order, writes((Event)i) ? 9 : 8, "a small output and a state of another size");
+        order.answer_short = 1;
+        refused(&other, order, 9, "a small answer and a state of another size");
+    }
     drop_engine(&whole);
     drop_engine(&other);
 }
@@ -801,9 +853,11 @@ static void reader_sizes(Tally *t, size_t status_len, size_t handle_len, uint8_t
     check(t, is_patterned(&answer, returned ? 0 : HISPROAT_STATUS_SIZE), "the rest of a status is as it was");
     check(t, is_patterned(&at, returned ? 0 : HISPROAT_HANDLE_SIZE) && is_patterned(&tied, returned ? 0 : HISPROAT_HANDLE_SIZE), "and of a handle");
     e.state.at[0] ^= 1;
-    check(t, hisproat_status(e.state.at, e.state.len, answer.at, answer.len) == 8, "a status of no engine");
-    check(t, hisproat_handle_at(e.state.at, e.state.len, 0, at.at, at.len) == 8, "a handle of no engine");
-    check(t, hisproat_tied_handle(e.state.at, e.state.len, 0, tied.at, tied.len) == 8, "a tied handle of no engine");
+    uint8_t broken = returned ? returned : 8; /* 9 comes before 8 */
+    check(t, hisproat_status(e.state.at, e.state.len, answer.at, answer.len) == broken, "a status of no engine");
+    check(t, hisproat_handle_at(e.state.at, e.state.len, 0, at.at, at.len) == broken, "a handle of no engine");
+    check(t, hisproat_tied_handle(e.state.at, e.state.len, 0, tied.at, tied.len) == broken, "a tied handle of no engine");
+    check(t, hisproat_status(e.state.at, e.state.len - 1, answer.at, answer.len) == broken, "a status of a state of another size");
     give_back(t, &answer);
     give_back(t, &at);
     give_back(t, &tied);
