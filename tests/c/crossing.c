@@ -587,7 +587,7 @@ static void told_by_close(Engine *e, Said said, uint8_t detail, uint8_t outcome,
 
 static void fine(Tally *t)
 {
-    Piece close = frame(0, CLOSE), sasl = hex("414D5150 03010000");
+    Piece close = frame(0, CLOSE), header = hex(HEADER), sasl = hex("414D5150 03010000");
     Engine e = opened(t, 0);
     check(t, !close_order(&e, none()).stopped, "a close order does not stop an engine");
     ends_with(&e, incoming(&e, of(&close), 0), HISPROAT_OUTCOME_FINE, "closed from this side");
@@ -599,6 +599,13 @@ static void fine(Tally *t)
     e = opened(t, 0);
     close_error(&e, "amqp:connection:forced", "", none());
     ends_with(&e, end_of_input(&e), HISPROAT_OUTCOME_FINE, "the input ends after a Close with an error");
+    e = new_engine(t, 0, p1());
+    send_header(&e);
+    receive_header(&e, of(&header));
+    send_open(&e);
+    close_order(&e, none());
+    check(t, status(&e).state == HISPROAT_STATE_CLOSE_PIPE, "a Close before the peer's Open");
+    ends_with(&e, end_of_input(&e), HISPROAT_OUTCOME_FINE, "the input ends after it");
 }
 
 /* Frames that cannot be read, with the refusal of each and how many bytes are consumed. */
@@ -728,6 +735,9 @@ static void transport_error(Tally *t)
     waiting_unsent(t);
     Engine e = awaiting(t);
     ends_with(&e, end_of_input(&e), HISPROAT_OUTCOME_TRANSPORT_ERROR, "the input ends while the peer's Close is awaited");
+    e = opened(t, 0);
+    close_order(&e, none());
+    ends_with(&e, end_of_input(&e), HISPROAT_OUTCOME_TRANSPORT_ERROR, "the input ends after a Close without an error, which is not answered");
 }
 
 static void illegal_state(Tally *t)
@@ -808,6 +818,106 @@ static void outcomes(Tally *t)
     not_found(t);
     not_implemented(t);
     remote_closed(t);
+}
+
+/* ---- Kept as in the Rust, against Part 2: the rows of docs/DIFFERENCES.md, and what the header says about them */
+
+/* A listener with one session of the peer's, on the peer's channel 0 and with the handle 100. */
+static Engine with_session(Tally *t)
+{
+    Engine e = opened(t, 1);
+    Piece begins = begin(0), answer = begin_for(0, 0);
+    check(t, incoming(&e, of(&begins), 100).kind == HISPROAT_KIND_BEGAN, "the peer begins a session");
+    check(t, outgoing(&e, of(&answer)).kind == HISPROAT_KIND_WROTE, "which is answered");
+    return e;
+}
+
+/* After a close order the frames that are still on their way are 20, the first one as well as the next. */
+static void closed_under_traffic(Tally *t)
+{
+    Piece flow = hex("0000000C 02000000 005313 45"), transfer = frame(0, TRANSFER);
+    Engine e = with_session(t);
+    close_order(&e, none());
+    Said said = incoming(&e, of(&flow), 0);
+    check(t, said.kind == HISPROAT_KIND_REFUSED && said.detail == 20 && !said.stopped && said.written == 0, "a session's frame after the close order");
+    check(t, said.number == 0 && said.body_length == 0, "it is not handed on");
+    refused(&e, (Order){ .event = ON_OUTGOING, .input = of(&transfer) }, 20, "nothing goes out while the Close is awaited");
+    ends_with(&e, incoming(&e, of(&flow), 0), HISPROAT_OUTCOME_ILLEGAL_STATE, "the next one stops the engine");
+    e = with_session(t);
+    close_order(&e, none());
+    said = outgoing(&e, of(&transfer));
+    check(t, said.kind == HISPROAT_KIND_REFUSED && said.detail == 20 && said.written == 0, "a frame to be sent after the close order");
+    check(t, status(&e).phase == HISPROAT_PHASE_AWAITING && status(&e).outcome == HISPROAT_OUTCOME_ILLEGAL_STATE, "is an error of this side's own");
+    drop_engine(&e);
+}
+
+/* The two ways to a clean end: the sessions end first, or the Close has an error, after which frames are passed over. */
+static void closed_cleanly(Tally *t)
+{
+    Piece end = frame(0, END), flow = frame(0, FLOW), close = frame(0, CLOSE);
+    Engine e = with_session(t);
+    check(t, outgoing(&e, of(&end)).kind == HISPROAT_KIND_WROTE, "this side ends the session");
+    check(t, incoming(&e, of(&flow), 0).kind == HISPROAT_KIND_FORWARD, "frames still come");
+    check(t, incoming(&e, of(&end), 0).detail == HISPROAT_END, "until the peer's End");
+    close_order(&e, none());
+    ends_with(&e, incoming(&e, of(&close), 0), HISPROAT_OUTCOME_FINE, "a close order after the sessions have ended");
+    e = with_session(t);
+    close_error(&e, "amqp:connection:forced", "", none());
+    check(t, incoming(&e, of(&flow), 0).kind == HISPROAT_KIND_NOTHING, "after a Close with an error a frame is passed over");
+    ends_with(&e, incoming(&e, of(&close), 0), HISPROAT_OUTCOME_FINE, "a close order with an error under traffic");
+}
+
+/* A Begin on a channel that is tied replaces the tie; freeing an outgoing channel leaves it. */
+static void tie_replaced(Tally *t)
+{
+    Piece first = begin_for(5, 2), second = begin_for(5, 1), also = begin_for(6, 1), attach = frame(5, ATTACH), end = frame(5, END), begins = begin(0);
+    Engine e = wall_opened(t, 4);
+    check(t, incoming(&e, of(&first), 0).number == 12 && tied_handle(&e, 5) == 12, "a Begin ties a channel");
+    check(t, incoming(&e, of(&second), 0).number == 11 && tied_handle(&e, 5) == 11, "a second one on the same channel ties it to another handle");
+    check(t, incoming(&e, of(&attach), 0).number == 11, "which its frames then reach");
+    check(t, incoming(&e, of(&also), 0).number == 11 && tied_handle(&e, 5) == 11 && tied_handle(&e, 6) == 11, "two channels may be tied to one handle");
+    check(t, deallocate(&e, 1).number == 11 && tied_handle(&e, 5) == 11, "freeing its outgoing channel leaves the ties");
+    check(t, incoming(&e, of(&end), 0).number == 11 && tied_handle(&e, 5) == -1 && tied_handle(&e, 6) == 11, "an End ends the tie of its own channel");
+    drop_engine(&e);
+    e = opened(t, 1);
+    for (uint32_t i = 0; i < 2; i++)
+        check(t, incoming(&e, of(&begins), 100 + i).kind == HISPROAT_KIND_BEGAN && tied_handle(&e, 0) == 100 + i, "a listener's new session on a tied channel");
+    check(t, handle_at(&e, 0) == 100 && status(&e).taken == 2, "the outgoing channel of the first stays taken");
+    drop_engine(&e);
+}
+
+/* An Open on a channel other than 0, an empty frame before it, and a max-frame-size under 512 are taken. */
+static void opened_oddly(Tally *t)
+{
+    Piece empty = hex("00000008 02000003"), open_on_3 = frame(3, "005310 C0 06 03 A10168 40 43"), header = hex(HEADER);
+    Engine e = new_engine(t, 1, p1());
+    receive_header(&e, of(&header));
+    send_header(&e);
+    check(t, incoming(&e, of(&empty), 0).kind == HISPROAT_KIND_NOTHING, "an empty frame before the Open, on channel 3");
+    check(t, incoming(&e, of(&open_on_3), 0).kind == HISPROAT_KIND_OPENED, "an Open on channel 3");
+    check(t, status(&e).state == HISPROAT_STATE_OPEN_RECEIVED && status(&e).writing_limit == 512, "a max-frame-size of 0 counts as 512");
+    drop_engine(&e);
+}
+
+/* A dialler takes no session that the peer begins. */
+static void session_not_taken(Tally *t)
+{
+    Piece begins = begin(0);
+    Engine e = opened(t, 0);
+    Said said = incoming(&e, of(&begins), 7);
+    check(t, said.kind == HISPROAT_KIND_REFUSED && said.detail == HISPROAT_REFUSED_NOT_IMPLEMENTED, "a Begin without a remote-channel to a dialler");
+    check(t, status(&e).phase == HISPROAT_PHASE_AWAITING && status(&e).outcome == HISPROAT_OUTCOME_NOT_IMPLEMENTED, "it closes the connection");
+    drop_engine(&e);
+}
+
+static void kept(Tally *t)
+{
+    t->part = "kept as in the Rust";
+    closed_under_traffic(t);
+    closed_cleanly(t);
+    tie_replaced(t);
+    opened_oddly(t);
+    session_not_taken(t);
 }
 
 /* ---- Sizes: states, answers and statuses of exactly the constants' sizes, and a byte more and less */
@@ -897,7 +1007,7 @@ static void sizes(Tally *t)
 int main(int argc, char **argv)
 {
     Tally t = { .part = "" }, totals = { .part = "" };
-    void (*const parts[])(Tally *) = { wall, conversation, refusals, outcomes, sizes };
+    void (*const parts[])(Tally *) = { wall, conversation, refusals, outcomes, kept, sizes };
     size_t count = sizeof parts / sizeof parts[0];
     for (size_t i = 0; i < count; i++) {
         parts[i](&t);
