@@ -51,6 +51,11 @@ passed "the library through C"
 valgrind --error-exitcode=1 -q "$work/crossing" | tail -n 1
 passed "the same under valgrind"
 
+stated=$(sed -n 's/.*The most that was measured is \([0-9,]*\) bytes.*/\1/p' include/hisproat.h | tr -d ,)
+stack=$("$work/speed" stack)
+[ "$stack" -le "$stated" ] || { echo "c.sh: a call uses $stack bytes of stack, and the header says $stated" >&2; exit 1; }
+passed "no call uses more stack than the header says: $stack bytes"
+
 gcc -std=c11 -O2 "${warnings[@]}" tests/c/frame_reader.c "$reader" "$archive" -o "$work/frame_reader"
 "$work/frame_reader"
 passed "the frame reader, beside the engine"

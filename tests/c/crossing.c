@@ -616,7 +616,7 @@ static const struct {
 } UNREADABLE[] = {
     { "00000007 02000000", 3, 0 },                       /* a length under 8 */
     { "00001001 02000000", 4, 0 },                       /* a byte over the reading limit of 4096, judged before the rest is there */
-    { "00000009 03000000 00", 5, 9 },                    /* a doff that is not 2 */
+    { "0000000C 03000000 00000000", 5, 12 },             /* a doff that is not 2 */
     { "00000008 02010000", 5, 8 },                       /* a type that is not 0 */
     { "0000000A 02000000 0053", 6, 10 },                 /* a body that is cut off */
     { "0000000E 02000000 00 A301 61 45 40", 6, 14 },     /* a symbolic descriptor */
@@ -870,7 +870,7 @@ static void closed_cleanly(Tally *t)
 /* A Begin on a channel that is tied replaces the tie; freeing an outgoing channel leaves it. */
 static void tie_replaced(Tally *t)
 {
-    Piece first = begin_for(5, 2), second = begin_for(5, 1), also = begin_for(6, 1), attach = frame(5, ATTACH), end = frame(5, END), begins = begin(0);
+    Piece first = hex("00000014 02000005 005311 C00704 600002 434343"), second = hex("00000014 02000005 005311 C00704 600001 434343"), also = begin_for(6, 1), attach = frame(5, ATTACH), end = frame(5, END), begins = begin(0);
     Engine e = wall_opened(t, 4);
     check(t, incoming(&e, of(&first), 0).number == 12 && tied_handle(&e, 5) == 12, "a Begin ties a channel");
     check(t, incoming(&e, of(&second), 0).number == 11 && tied_handle(&e, 5) == 11, "a second one on the same channel ties it to another handle");
@@ -889,23 +889,27 @@ static void tie_replaced(Tally *t)
 /* An Open on a channel other than 0, an empty frame before it, and a max-frame-size under 512 are taken. */
 static void opened_oddly(Tally *t)
 {
-    Piece empty = hex("00000008 02000003"), open_on_3 = frame(3, "005310 C0 06 03 A10168 40 43"), header = hex(HEADER);
+    Piece empty = hex("00000008 02000000"), header = hex(HEADER), open_on_3 = hex("00000011 02000003 005310 C00401 A10168");
+    Piece open_of_0 = hex("00000013 02000000 005310 C00603 A10168 40 43");
     Engine e = new_engine(t, 1, p1());
     receive_header(&e, of(&header));
     send_header(&e);
-    check(t, incoming(&e, of(&empty), 0).kind == HISPROAT_KIND_NOTHING, "an empty frame before the Open, on channel 3");
-    check(t, incoming(&e, of(&open_on_3), 0).kind == HISPROAT_KIND_OPENED, "an Open on channel 3");
-    check(t, status(&e).state == HISPROAT_STATE_OPEN_RECEIVED && status(&e).writing_limit == 512, "a max-frame-size of 0 counts as 512");
+    check(t, incoming(&e, of(&empty), 0).kind == HISPROAT_KIND_NOTHING, "an empty frame before the Open");
+    Engine other = copy_of(&e);
+    check(t, incoming(&e, of(&open_on_3), 0).kind == HISPROAT_KIND_OPENED && status(&e).state == HISPROAT_STATE_OPEN_RECEIVED, "an Open on channel 3");
+    check(t, status(&e).writing_limit == 16384, "without a max-frame-size, which is then 16384");
+    check(t, incoming(&other, of(&open_of_0), 0).kind == HISPROAT_KIND_OPENED && status(&other).writing_limit == 512, "a max-frame-size of 0 counts as 512");
     drop_engine(&e);
+    drop_engine(&other);
 }
 
 /* A dialler takes no session that the peer begins. */
 static void session_not_taken(Tally *t)
 {
-    Piece begins = begin(0);
+    Piece of_proton = hex("0000001A 02000000 005311 C00D04 40 43 707FFFFFFF 707FFFFFFF");
     Engine e = opened(t, 0);
-    Said said = incoming(&e, of(&begins), 7);
-    check(t, said.kind == HISPROAT_KIND_REFUSED && said.detail == HISPROAT_REFUSED_NOT_IMPLEMENTED, "a Begin without a remote-channel to a dialler");
+    Said said = incoming(&e, of(&of_proton), 7);
+    check(t, said.kind == HISPROAT_KIND_REFUSED && said.detail == HISPROAT_REFUSED_NOT_IMPLEMENTED, "a Begin without a remote-channel, as Proton's server writes it");
     check(t, status(&e).phase == HISPROAT_PHASE_AWAITING && status(&e).outcome == HISPROAT_OUTCOME_NOT_IMPLEMENTED, "it closes the connection");
     drop_engine(&e);
 }
