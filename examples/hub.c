@@ -2,7 +2,7 @@
  * A hub that counts the presses of pads, one engine for each pad's connection. Usage: hub RECORDING
  *
  * The pads' bytes come from a recording (tests/make_pads.py makes it and tells its story): pieces of arbitrary size, as sockets would give them. What the hub
- * would send is counted and dropped.
+ * would send is counted and dropped. A hub with a clock would tick each line at least twice in the pad's idle-time-out; here a tick comes every few pieces.
  *
  * The hub gives each session a handle: the number of its row in a table. A session's presses are the Transfers that its engine hands on with that handle.
  *
@@ -10,6 +10,13 @@
  * ends B's session: it sends an End and frees the channel that it used. It goes on reading B's connection until B's own End: frames that B sent before it heard
  * of its end are late, and the engine still gives them B's handle. So they are counted for B, and none for D. Later pad A ends its session and begins another
  * on the same channel: that is a new handle, and a new row.
+ *
+ * A pad that does something wrong ends its own line, and the others go on. There are three ways:
+ * - a call is refused, as for the header of pad G, or the header is another protocol's, as that of F: the hub hangs up;
+ * - the engine has stopped, as for a frame of H that is too long: the hub sends what was written, and hangs up;
+ * - the engine has written a Close that tells the pad, and awaits the pad's Close, as for an End of E that belongs to no session. Until then it takes frames, which
+ *   are counted no more, and the end of the input. It refuses ticks and orders, so the hub asks for the phase before it makes one.
+ * What was wrong first is told at the end, in words, beside the pad.
  */
 #include "hisproat.h"
 
@@ -17,14 +24,14 @@
 #include <stdlib.h>
 #include <string.h>
 
-enum { PADS = 4, SESSIONS = 8, MAX_FRAME = 1024, MAX_PIECE = 255, TICK_EVERY = 32 };
+enum { PADS = 8, LANES = 6, SESSIONS_EACH = 4, SESSIONS = PADS * SESSIONS_EACH, MAX_FRAME = 1024, MAX_PIECE = 255, TICK_EVERY = 32 };
 
 typedef struct {
     const char *name;
     unsigned lane;
 } Pad;
 
-static const Pad PAD[PADS] = { { "A", 1 }, { "B", 2 }, { "C", 3 }, { "D", 2 } };
+static const Pad PAD[PADS] = { { "A", 1 }, { "B", 2 }, { "C", 3 }, { "D", 2 }, { "E", 4 }, { "F", 5 }, { "G", 5 }, { "H", 6 } };
 
 typedef struct {
     unsigned pad;
@@ -34,7 +41,7 @@ typedef struct {
     unsigned late; /* of these, those that came after the hub's End */
 } Session;
 
-/* A connection: its engine, and what came and is not yet a whole frame. */
+/* A connection: its engine, what came and is not yet a whole frame, and how it ended. */
 typedef struct {
     uint8_t state[HISPROAT_STATE_SIZE];
     uint8_t held[MAX_FRAME + MAX_PIECE];
@@ -42,6 +49,7 @@ typedef struct {
     int has_header;
     int is_over;
     uint8_t outcome;
+    const char *fault; /* what was wrong first; NULL while nothing was */
     size_t bytes_in;
     size_t bytes_out;
 } Line;
@@ -50,7 +58,7 @@ typedef struct {
     Line lines[PADS];
     Session sessions[SESSIONS];
     uint32_t session_count;
-    uint8_t output[HISPROAT_OUTPUT_ROOM + 2 * MAX_FRAME];
+    uint8_t output[HISPROAT_OUTPUT_ROOM];
     uint8_t answer[HISPROAT_ANSWER_SIZE];
 } Hub;
 
@@ -60,23 +68,74 @@ static void fail(const char *what, unsigned number)
     exit(1);
 }
 
-/* ---- After an event: what was written is sent, and the line is over where the engine has stopped */
+/* ---- After each call: what was written is sent, and the line is over where the engine has stopped or refused the call */
 
-static void done(Hub *hub, Line *line, uint8_t refused, const char *what)
+/* What was wrong with a frame, in words: the detail of KIND_REFUSED. */
+static const char *fault_of(uint8_t detail)
 {
-    if (refused != HISPROAT_OK)
-        fail(what, refused);
-    /* a hub with sockets would send hub->output here */
-    line->bytes_out += hisproat_written(hub->answer);
-    if (hub->answer[HISPROAT_AT_STOPPED]) {
-        line->is_over = 1;
-        line->outcome = hub->answer[HISPROAT_AT_OUTCOME];
+    switch (detail) {
+    case HISPROAT_REFUSED_LENGTH_UNDER_8:
+    case HISPROAT_REFUSED_FRAME_TYPE:
+    case HISPROAT_REFUSED_BODY_MALFORMED:
+        return "it sent a frame that is malformed";
+    case HISPROAT_REFUSED_OVER_READING_LIMIT:
+        return "it sent a frame that is too long";
+    case HISPROAT_REFUSED_CHANNEL_TOO_HIGH:
+        return "it sent a frame on a channel that is too high";
+    case HISPROAT_REFUSED_ILLEGAL_STATE:
+        return "it sent a frame out of turn";
+    case HISPROAT_REFUSED_NOT_FOUND:
+        return "it sent a frame that belongs to no session";
+    case HISPROAT_REFUSED_NOT_IMPLEMENTED:
+        return "it began too many sessions";
+    default:
+        return "a frame of the hub could not be sent to it";
     }
+}
+
+/* The first fault of a line is the one that is told. */
+static void blame(Line *line, const char *fault)
+{
+    if (line->fault == NULL)
+        line->fault = fault;
+}
+
+/* A hub with sockets would close this pad's. */
+static void hang_up(Line *line, const char *fault)
+{
+    blame(line, fault);
+    line->is_over = 1;
+}
+
+static void done(Hub *hub, Line *line, uint8_t refused)
+{
+    const uint8_t *answer = hub->answer;
+    if (refused != HISPROAT_OK) {
+        hang_up(line, refused == HISPROAT_REFUSED_HEADER_MALFORMED ? "it does not begin with an AMQP header" : "a call of the hub was refused");
+        return;
+    }
+    /* a hub with sockets would send hub->output here */
+    line->bytes_out += hisproat_written(answer);
+    if (answer[HISPROAT_AT_KIND] == HISPROAT_KIND_REFUSED)
+        blame(line, fault_of(answer[HISPROAT_AT_DETAIL]));
+    if (answer[HISPROAT_AT_STOPPED]) {
+        line->is_over = 1;
+        line->outcome = answer[HISPROAT_AT_OUTCOME];
+    }
+}
+
+/* Whether a line takes orders: its engine is running, and neither awaits the pad's Close nor has stopped. */
+static int takes_orders(const Line *line)
+{
+    uint8_t status[HISPROAT_STATUS_SIZE];
+    return !line->is_over && hisproat_status(line->state, sizeof line->state, status, sizeof status) == HISPROAT_OK
+        && status[HISPROAT_STATUS_AT_PHASE] == HISPROAT_PHASE_RUNNING;
 }
 
 static void tick(Hub *hub, Line *line)
 {
-    done(hub, line, hisproat_on_tick(line->state, sizeof line->state, hub->output, sizeof hub->output, hub->answer, sizeof hub->answer), "tick");
+    if (takes_orders(line))
+        done(hub, line, hisproat_on_tick(line->state, sizeof line->state, hub->output, sizeof hub->output, hub->answer, sizeof hub->answer));
 }
 
 /* ---- Frames that the hub sends */
@@ -87,8 +146,8 @@ static void send_frame(Hub *hub, Line *line, uint16_t channel, const uint8_t *bo
     if (8 + len > sizeof frame)
         fail("a frame is too long", (unsigned)len);
     memcpy(frame + 8, body, len);
-    done(hub, line, hisproat_on_outgoing(line->state, sizeof line->state, frame, 8 + len, hub->output, sizeof hub->output, hub->answer, sizeof hub->answer),
-         "a frame to be sent");
+    if (takes_orders(line))
+        done(hub, line, hisproat_on_outgoing(line->state, sizeof line->state, frame, 8 + len, hub->output, sizeof hub->output, hub->answer, sizeof hub->answer));
 }
 
 /* Begin: remote-channel, next-outgoing-id 0, both windows 100 */
@@ -116,21 +175,28 @@ static void end_session(Hub *hub, Session *session)
     if (!session->is_open)
         return;
     session->is_open = 0;
-    if (line->is_over)
-        return;
     send_frame(hub, line, session->channel, end, sizeof end);
-    done(hub, line, hisproat_on_deallocate(line->state, sizeof line->state, session->channel, hub->answer, sizeof hub->answer), "freeing a channel");
+    if (takes_orders(line))
+        done(hub, line, hisproat_on_deallocate(line->state, sizeof line->state, session->channel, hub->answer, sizeof hub->answer));
 }
 
 /* ---- What the pads send */
 
-/* A session began, with the handle that was spare. Another pad's session on the same lane is ended. */
+static unsigned sessions_of(const Hub *hub, unsigned pad)
+{
+    unsigned count = 0;
+    for (uint32_t i = 0; i < hub->session_count; i++)
+        count += hub->sessions[i].pad == pad;
+    return count;
+}
+
+/* A session began, with the handle that was spare. Another session on the same lane is ended. A pad has so many rows and takes none from the others. */
 static void on_began(Hub *hub, unsigned pad, uint16_t channel, uint16_t remote)
 {
     Line *line = &hub->lines[pad];
-    if (hub->session_count == SESSIONS) {
-        done(hub, line, hisproat_on_not_delivered(line->state, sizeof line->state, 1, hub->output, sizeof hub->output, hub->answer, sizeof hub->answer),
-             "a session too many");
+    if (sessions_of(hub, pad) == SESSIONS_EACH) {
+        done(hub, line, hisproat_on_not_delivered(line->state, sizeof line->state, 1, hub->output, sizeof hub->output, hub->answer, sizeof hub->answer));
+        blame(line, "it began too many sessions");
         return;
     }
     for (uint32_t i = 0; i < hub->session_count; i++)
@@ -159,7 +225,7 @@ static void act_on(Hub *hub, unsigned pad, const uint8_t *frame)
     const uint8_t *answer = hub->answer;
     switch (answer[HISPROAT_AT_KIND]) {
     case HISPROAT_KIND_OPENED:
-        done(hub, line, hisproat_send_open(line->state, sizeof line->state, hub->output, sizeof hub->output, hub->answer, sizeof hub->answer), "the Open");
+        done(hub, line, hisproat_send_open(line->state, sizeof line->state, hub->output, sizeof hub->output, hub->answer, sizeof hub->answer));
         break;
     case HISPROAT_KIND_BEGAN:
         on_began(hub, pad, hisproat_channel(answer), (uint16_t)hisproat_number(frame + 6, 2));
@@ -180,22 +246,25 @@ static void consume(Line *line, size_t count)
     memmove(line->held, line->held + count, line->held_len);
 }
 
-/* Whether the pad's header is there. The hub's goes back. */
-static int take_header(Hub *hub, Line *line)
+/* Takes the pad's header, once it is there. The hub's goes back. */
+static void take_header(Hub *hub, Line *line)
 {
     uint8_t refused = hisproat_receive_header(line->state, sizeof line->state, line->held, line->held_len, hub->answer, sizeof hub->answer);
     if (refused == HISPROAT_REFUSED_BYTES_MISSING)
-        return 0;
-    done(hub, line, refused, "a header");
-    if (hub->answer[HISPROAT_AT_KIND] != HISPROAT_KIND_HEADER)
-        fail("a header of another protocol", hub->answer[HISPROAT_AT_KIND]);
+        return;
+    done(hub, line, refused);
+    if (line->is_over)
+        return;
+    if (hub->answer[HISPROAT_AT_KIND] == HISPROAT_KIND_OTHER_PROTOCOL) {
+        hang_up(line, "it speaks another protocol than AMQP 1.0.0");
+        return;
+    }
     consume(line, hisproat_consumed(hub->answer));
-    done(hub, line, hisproat_send_header(line->state, sizeof line->state, hub->output, sizeof hub->output, hub->answer, sizeof hub->answer), "a header");
     line->has_header = 1;
-    return 1;
+    done(hub, line, hisproat_send_header(line->state, sizeof line->state, hub->output, sizeof hub->output, hub->answer, sizeof hub->answer));
 }
 
-/* Hands one frame to the engine. Whether there may be another. */
+/* Hands one frame to the engine. Whether it was a whole one, and another may follow. */
 static int take_frame(Hub *hub, unsigned pad)
 {
     Line *line = &hub->lines[pad];
@@ -205,13 +274,13 @@ static int take_frame(Hub *hub, unsigned pad)
                                            sizeof hub->output, hub->answer, sizeof hub->answer);
     if (refused == HISPROAT_REFUSED_BYTES_MISSING)
         return 0;
-    done(hub, line, refused, "a frame");
+    done(hub, line, refused);
     if (line->is_over)
         return 0;
     memcpy(frame, line->held, sizeof frame);
     consume(line, hisproat_consumed(hub->answer));
     act_on(hub, pad, frame);
-    return !line->is_over;
+    return 1;
 }
 
 static void on_piece(Hub *hub, unsigned pad, const uint8_t *bytes, size_t count)
@@ -222,53 +291,83 @@ static void on_piece(Hub *hub, unsigned pad, const uint8_t *bytes, size_t count)
         return;
     memcpy(line->held + line->held_len, bytes, count);
     line->held_len += count;
-    if (!line->has_header && !take_header(hub, line))
-        return;
-    while (take_frame(hub, pad))
+    if (!line->has_header)
+        take_header(hub, line);
+    while (line->has_header && !line->is_over && take_frame(hub, pad))
         ;
+}
+
+/* Reads one record: its pad and its piece. Whether there was one. */
+static int read_record(FILE *recording, unsigned n, unsigned *pad, uint8_t *bytes, size_t *count)
+{
+    uint8_t head[3];
+    size_t got = fread(head, 1, sizeof head, recording);
+    if (got == 0)
+        return 0;
+    *pad = head[0];
+    *count = (size_t)hisproat_number(head + 1, 2);
+    if (got < sizeof head || *pad >= PADS || *count > MAX_PIECE || fread(bytes, 1, *count, recording) != *count)
+        fail("a record that is not right", n);
+    return 1;
 }
 
 static void play(Hub *hub, FILE *recording)
 {
-    uint8_t record[3], bytes[MAX_PIECE];
-    for (unsigned n = 1; fread(record, 1, sizeof record, recording) == sizeof record; n++) {
-        size_t count = (size_t)hisproat_number(record + 1, 2);
-        if (record[0] >= PADS || count > sizeof bytes || fread(bytes, 1, count, recording) != count)
-            fail("a record that is not right", n);
-        on_piece(hub, record[0], bytes, count);
+    uint8_t bytes[MAX_PIECE];
+    unsigned from;
+    size_t count;
+    for (unsigned n = 1; read_record(recording, n, &from, bytes, &count); n++) {
+        on_piece(hub, from, bytes, count);
         for (unsigned pad = 0; n % TICK_EVERY == 0 && pad < PADS; pad++)
-            if (!hub->lines[pad].is_over)
-                tick(hub, &hub->lines[pad]);
+            tick(hub, &hub->lines[pad]);
     }
     for (unsigned pad = 0; pad < PADS; pad++) {
         Line *line = &hub->lines[pad];
         if (!line->is_over)
-            done(hub, line, hisproat_on_end_of_input(line->state, sizeof line->state, hub->output, sizeof hub->output, hub->answer, sizeof hub->answer), "the end");
+            done(hub, line, hisproat_on_end_of_input(line->state, sizeof line->state, hub->output, sizeof hub->output, hub->answer, sizeof hub->answer));
     }
 }
 
-/* ---- The table */
+/* ---- The tables */
 
-static void print_totals(const Hub *hub)
+static void print_sessions(const Hub *hub)
 {
-    static const char *const ENDED[] = { "closed by the hub", "no Close came", "illegal state", "not found", "not implemented", "closed by the pad",
-                                         "closed by the pad with an error" };
     printf("session  pad  lane  presses  of these late\n");
     for (uint32_t i = 0; i < hub->session_count; i++) {
         const Session *s = &hub->sessions[i];
         printf("%7u  %-3s  %4u  %7u  %13u\n", i, PAD[s->pad].name, PAD[s->pad].lane, s->presses, s->late);
     }
+}
+
+static void print_lanes(const Hub *hub)
+{
     printf("\nlane  presses\n");
-    for (unsigned lane = 1; lane <= 3; lane++) {
+    for (unsigned lane = 1; lane <= LANES; lane++) {
         unsigned presses = 0;
         for (uint32_t i = 0; i < hub->session_count; i++)
             presses += PAD[hub->sessions[i].pad].lane == lane ? hub->sessions[i].presses : 0;
         printf("%4u  %7u\n", lane, presses);
     }
+}
+
+/* How a line without a fault ended. */
+static const char *end_of(const Line *line)
+{
+    if (line->bytes_in == 0)
+        return "it never came";
+    if (line->outcome == HISPROAT_OUTCOME_REMOTE_CLOSED)
+        return "closed by the pad";
+    if (line->outcome == HISPROAT_OUTCOME_REMOTE_CLOSED_WITH_ERROR)
+        return "closed by the pad with an error";
+    return "switched off: no Close came";
+}
+
+static void print_pads(const Hub *hub)
+{
     printf("\npad  bytes in  bytes out  ended\n");
     for (unsigned pad = 0; pad < PADS; pad++) {
         const Line *line = &hub->lines[pad];
-        printf("%-3s  %8zu  %9zu  %s\n", PAD[pad].name, line->bytes_in, line->bytes_out, ENDED[line->outcome]);
+        printf("%-3s  %8zu  %9zu  %s%s\n", PAD[pad].name, line->bytes_in, line->bytes_out, line->fault ? "error: " : "", line->fault ? line->fault : end_of(line));
     }
 }
 
@@ -287,6 +386,8 @@ int main(int argc, char **argv)
     }
     play(&hub, recording);
     fclose(recording);
-    print_totals(&hub);
+    print_sessions(&hub);
+    print_lanes(&hub);
+    print_pads(&hub);
     return 0;
 }

@@ -14,9 +14,9 @@
  *             It has no pointers inside: it may be moved, copied, kept in storage and brought back. A copy is another engine that stands where the first one stood.
  *             Every call checks it from the first byte to the last. Bytes that are not a sound engine are refused with 8 and left as they are.
  *   input     bytes that are only read: a frame, waiting frames, a header, a text.
- *   output    where frames are written. At least hisproat_room(n) bytes, where n is how many bytes of session frames are lent to the same call (the frame
- *             of hisproat_on_outgoing, or the waiting frames); less is refused with 9, also where nothing would be written. What was written stands
- *             at the front. The bytes after it are not touched.
+ *   output    where frames are written. At least HISPROAT_OUTPUT_ROOM bytes, whatever the length of a frame that you lend; where waiting frames are lent to the same
+ *             call, hisproat_room(n), n being how many bytes of them there are. Less is refused with 9, also where nothing would be written. What was written
+ *             stands at the front. The bytes after it are not touched.
  *   answer    where the answer goes: at least HISPROAT_ANSWER_SIZE, HISPROAT_STATUS_SIZE or HISPROAT_HANDLE_SIZE bytes; less is refused with 9. Only so
  *             many are written.
  *
@@ -27,7 +27,8 @@
  * WHAT COMES BACK
  *
  * Every function returns 0, or the number of a refusal (HISPROAT_REFUSED_..). A refusal changes no lent byte: state, output and answer are as they were, and
- * the call may be made again. The order of judgement is: the state (8), the size of the answer (9), then what is said at each function.
+ * the call may be made again. Refusals are named at each function in the order of judgement: first the sizes of output and answer (9), from their lengths alone and
+ * whatever the state's bytes are; then the state (8); then the rest.
  *
  * On 0 the answer of an event tells, at these places, numbers big-endian:
  *
@@ -50,8 +51,10 @@
  * A handle is your 32-bit number for a session. The engine stores it and gives it back; it does not look at it.
  * An outgoing channel is taken by hisproat_on_allocate, or for a session that the peer begins (a listener's, kind BEGAN). Frames that you send for the
  * session carry it. It stays taken until hisproat_on_deallocate; the channel that was freed last is the next that is given.
- * An incoming channel is tied to a handle by a Begin. It stays tied until the peer's End, also after you have freed the outgoing channel: frames of the
- * old session that are still on their way reach the old handle.
+ * An incoming channel is tied to a handle by a Begin, and its frames reach that handle. The tie ends with the peer's End on that channel, or with a later Begin on it,
+ * which ties it to another handle. Freeing the outgoing channel leaves the tie: frames of the old session that are still on their way reach the old handle.
+ * So a handle's number may stand for another session only when its outgoing channel is freed and no incoming channel is tied to it any more. A peer may tie several
+ * channels to one handle, by a Begin on each; hisproat_tied_handle tells of each channel.
  *
  *
  * THE LIFE OF AN ENGINE
@@ -59,9 +62,10 @@
  * 1. hisproat_dialler or hisproat_listener.
  * 2. hisproat_send_header, and hisproat_receive_header with what came. A dialler sends first.
  * 3. hisproat_send_open, and hisproat_on_incoming with the peer's Open (kind OPENED).
- * 4. Frames: hisproat_on_incoming for each that comes, hisproat_on_outgoing for each that goes out. hisproat_on_tick writes an empty frame; call it often enough
- *    for the peer's idle-time-out.
- * 5. hisproat_on_close or hisproat_on_close_with_error; or the peer's Close comes, and the engine answers it by itself.
+ * 4. Frames: hisproat_on_incoming for each that comes, hisproat_on_outgoing for each that goes out. hisproat_on_tick writes an empty frame; call it at least once
+ *    in half the peer's idle-time-out, which the answer to its Open has.
+ * 5. The sessions end, by an End on each side. Then hisproat_on_close; or, with sessions or without, hisproat_on_close_with_error; or the peer's Close comes, and the
+ *    engine answers it by itself.
  * 6. The answer says stopped. Send what was written, then hang up.
  *
  * The phase (hisproat_status) is one of three. Running takes every event. An engine that met an error of the peer writes a Close that tells it, and then is
@@ -73,7 +77,8 @@
  *
  * There are no globals and no thread-local data. Calls on different states may run at the same time. Calls on one state, and on any slice that a call writes
  * to, must come one after the other. Of the C library only memcpy and memset are used.
- * A call keeps copies of the engine on the stack. The most that was measured is 51,000 bytes: give a thread that calls 64 KiB besides its own.
+ * A call keeps copies of the engine on the stack. The most that was measured is 54,016 bytes, in hisproat_on_close_with_error while an Attach waits whose last field
+ * has values down to the sixteenth level: give a thread that calls 64 KiB besides its own.
  *
  *
  * EXAMPLE: a listener that reads a whole recorded input. Returns the outcome, or -1 where an argument was refused.
@@ -133,7 +138,7 @@ enum {
     HISPROAT_ANSWER_SIZE = 42,   /* an event's answer */
     HISPROAT_STATUS_SIZE = 16,   /* the answer of hisproat_status */
     HISPROAT_HANDLE_SIZE = 5,    /* the answer of hisproat_handle_at and hisproat_tied_handle */
-    HISPROAT_OUTPUT_ROOM = 16384 /* the least output; hisproat_room has what waiting frames add */
+    HISPROAT_OUTPUT_ROOM = 16384 /* the least output, and the longest frame that is written; hisproat_room has what waiting frames add */
 };
 
 /* ---- Limits of the settings and of an error's texts. What is beyond them is refused with 8. */
@@ -197,7 +202,7 @@ enum {
     HISPROAT_KIND_HEADER = 4,         /* the header of AMQP 1.0.0 came */
     HISPROAT_KIND_OTHER_PROTOCOL = 5, /* another protocol's header came; the connection is over: hang up. The next tick says stopped */
     HISPROAT_KIND_NOTHING = 6,        /* an empty frame; or any frame but a Close after a Close with an error was sent */
-    HISPROAT_KIND_OPENED = 7,         /* the peer's Open. number: its idle-time-out in milliseconds, 0 for none */
+    HISPROAT_KIND_OPENED = 7,         /* the peer's Open. number: its idle-time-out in milliseconds, 0 for none: tick at least once in half of it */
     HISPROAT_KIND_CLOSED = 8,         /* the peer's Close. detail: 1 if with an error */
     HISPROAT_KIND_FORWARD = 9,        /* a session's frame. detail: the performative; number: the handle; body start and length */
     HISPROAT_KIND_BEGAN = 10,         /* the peer began a session. detail: 17; channel: the outgoing channel it got; number: the spare handle, now its own; body */
@@ -220,7 +225,7 @@ enum {
 /* ---- Outcomes: how an engine ended, or, while it is awaiting, how it will */
 
 enum {
-    HISPROAT_OUTCOME_FINE = 0,                    /* closed by this side, or another protocol */
+    HISPROAT_OUTCOME_FINE = 0,                    /* closed by this side, or another protocol; also where the input ends after this side's Close: see hisproat_on_end_of_input */
     HISPROAT_OUTCOME_TRANSPORT_ERROR = 1,         /* a frame that cannot be read or is too long to send, or the input ended too early */
     HISPROAT_OUTCOME_ILLEGAL_STATE = 2,           /* a frame that the state does not allow; or an end or an error before the Opens */
     HISPROAT_OUTCOME_NOT_FOUND = 3,               /* a frame for no session */
@@ -275,6 +280,7 @@ enum {
 /* ---- A new engine.
  * Lays a new engine into the state, whatever stood there. The container-id is copied. The idle-time-out, in milliseconds, is what the peer is told; where
  * has_idle_time_out is 0 it is not looked at. Flags: 0 is no, any other number is yes.
+ * A dialler takes no session that the peer begins (25); a listener does.
  * 8: the state has another size, or a setting is beyond its limits. */
 
 uint8_t hisproat_dialler(uint8_t *state, size_t state_len, const uint8_t *container_id, size_t container_id_len, uint32_t max_frame_size,
@@ -285,14 +291,15 @@ uint8_t hisproat_listener(uint8_t *state, size_t state_len, const uint8_t *conta
 
 /* ---- Before the first frame */
 
-/* Writes the protocol header, 8 bytes. Kind WROTE. Refusals: 9, 20. */
+/* Writes the protocol header, 8 bytes. Kind WROTE. Refusals: 9, 8, 20. */
 uint8_t hisproat_send_header(uint8_t *state, size_t state_len, uint8_t *output, size_t output_len, uint8_t *answer, size_t answer_len);
 
-/* Reads a protocol header at the front of the input, and consumes 8 bytes. Kinds HEADER, OTHER_PROTOCOL. Refusals: 20 (phase), 1, 2, 20 (state).
+/* Reads a protocol header at the front of the input, and consumes 8 bytes. Kinds HEADER, OTHER_PROTOCOL. Refusals: 9, 8, 20 (phase), 1, 2,
+ * 20 (state).
  * A malformed header (2) leaves the engine as it was. */
 uint8_t hisproat_receive_header(uint8_t *state, size_t state_len, const uint8_t *input, size_t input_len, uint8_t *answer, size_t answer_len);
 
-/* Writes the Open that the settings make. Kind WROTE. Refusals: 9, 20. */
+/* Writes the Open that the settings make. Kind WROTE. Refusals: 9, 8, 20. */
 uint8_t hisproat_send_open(uint8_t *state, size_t state_len, uint8_t *output, size_t output_len, uint8_t *answer, size_t answer_len);
 
 /* ---- Events */
@@ -303,54 +310,60 @@ uint8_t hisproat_send_open(uint8_t *state, size_t state_len, uint8_t *output, si
  * Output: hisproat_room(waiting_len).
  * Kinds: NOTHING, OPENED, CLOSED, FORWARD, BEGAN, REFUSED.
  * CLOSED: the engine has stopped. The outcome says which side closed; or, where a waiting frame could not go out, what that led to.
- * REFUSED: the frame is wrong. With the detail 3 to 7 the engine has stopped with TRANSPORT_ERROR. With 20, 24 or 25 it has written a Close that tells the peer
- * and now awaits the peer's Close, or, where there is nothing to close, it has stopped. While awaiting, a frame that is wrong stops it.
+ * REFUSED: the frame is wrong. With the detail 3 to 7 the engine has stopped with TRANSPORT_ERROR. With 20, 24 or 25 it has written a Close that tells the peer,
+ * unless one was sent before, and now awaits the peer's Close, or, where there is nothing to close, it has stopped. While awaiting, a frame that is wrong stops it.
  * Consumed: the frame's length; 0 with the details 3 and 4, where it is not known where the next frame starts.
- * Refusals: 9, 20 (stopped), 1 (call again with more bytes), then those of the waiting frames: 1, 3, 5, 6, 7. */
+ * Refusals: 9, 8, 20 (stopped), 1 (call again with more bytes), then those of the waiting frames: 1, 3, 5, 6, 7. */
 uint8_t hisproat_on_incoming(uint8_t *state, size_t state_len, const uint8_t *frame, size_t frame_len, uint32_t spare, const uint8_t *waiting,
                              size_t waiting_len, uint8_t *output, size_t output_len, uint8_t *answer, size_t answer_len);
 
 /* An order to close. Writes the waiting frames and then a Close. The engine goes on running until the peer's Close comes.
+ * From then on frames of sessions are an error, in both directions. One that comes, though the peer may have sent it before it read the Close, is REFUSED with the
+ * detail 20 and handed to nobody; the outcome will be ILLEGAL_STATE, and the next one stops the engine. So let the sessions end first, each with its End and the
+ * peer's, or close with an error: frames that come after that are passed over, and the peer's Close leads to FINE.
  * Output: hisproat_room(waiting_len). Kind WROTE, or REFUSED: a waiting frame or the Close could not go out, as at hisproat_on_outgoing; what was written
  * before it is written.
- * Refusals: 9, 20 (phase), then those of the waiting frames: 1, 3, 5, 6, 7. */
+ * Refusals: 9, 8, 20 (phase), then those of the waiting frames: 1, 3, 5, 6, 7. */
 uint8_t hisproat_on_close(uint8_t *state, size_t state_len, const uint8_t *waiting, size_t waiting_len, uint8_t *output, size_t output_len,
                           uint8_t *answer, size_t answer_len);
 
 /* The same with an error: its condition in ASCII and, where has_description is not 0, its description in UTF-8. From then on only the peer's Close is looked at.
- * Refusals: 9, 8 (a text), 20 (phase), then those of the waiting frames. */
+ * Refusals: 9, 8 (the state or a text), 20 (phase), then those of the waiting frames. */
 uint8_t hisproat_on_close_with_error(uint8_t *state, size_t state_len, const uint8_t *condition, size_t condition_len, uint8_t has_description,
                                      const uint8_t *description, size_t description_len, const uint8_t *waiting, size_t waiting_len,
                                      uint8_t *output, size_t output_len, uint8_t *answer, size_t answer_len);
 
-/* Takes an outgoing channel for the session `handle`. Kind CHANNEL. Refusals: 20 (phase), 22, 21, 23. */
+/* Takes an outgoing channel for the session `handle`. Kind CHANNEL. Refusals: 9, 8, 20 (phase), 22, 21, 23. */
 uint8_t hisproat_on_allocate(uint8_t *state, size_t state_len, uint32_t handle, uint8_t *answer, size_t answer_len);
 
-/* Frees an outgoing channel. Kind FREED. Incoming ties stay as they are. Refusals: 20 (phase), 26. */
+/* Frees an outgoing channel. Kind FREED: the number is its handle. Incoming ties stay as they are, and lead to that handle. Refusals: 9, 8, 20 (phase), 26. */
 uint8_t hisproat_on_deallocate(uint8_t *state, size_t state_len, uint16_t channel, uint8_t *answer, size_t answer_len);
 
 /* A session's frame goes out: one whole frame with its outgoing channel; bytes after it are not looked at. It is written in its shortest form, so the bytes may
  * differ from those lent. A listener's Begin that has a remote-channel ties that incoming channel to the handle of the channel that it is sent on.
- * Output: hisproat_room(frame_len). Kind WROTE, or REFUSED: with the detail 27 the engine has stopped with TRANSPORT_ERROR; with 20 (not opened, or closed
- * already) or 24 (a listener's Begin on a channel that is not taken) as at hisproat_on_incoming.
- * Refusals: 9, 20 (phase), then those of the frame: 1, 3, 5, 6, 7. */
+ * Output: HISPROAT_OUTPUT_ROOM, however long the frame is: one that would be longer is not written (27).
+ * Kind WROTE, or REFUSED: with the detail 27 the engine has stopped with TRANSPORT_ERROR; with 20 (not opened yet, or after hisproat_on_close) or 24 (a listener's
+ * Begin on a channel that is not taken) as at hisproat_on_incoming.
+ * Refusals: 9, 8, 20 (phase), then those of the frame: 1, 3, 5, 6, 7. */
 uint8_t hisproat_on_outgoing(uint8_t *state, size_t state_len, const uint8_t *frame, size_t frame_len, uint8_t *output, size_t output_len,
                              uint8_t *answer, size_t answer_len);
 
-/* Time to show that this side is there: writes an empty frame; 0 bytes in the states START and CLOSE_SENT. Kind WROTE, or, where the connection is over, END: the
- * engine has stopped. Refusals: 9, 20 (phase). */
+/* Time to show that this side is there: writes an empty frame; 0 bytes in the states START and CLOSE_SENT. Due at least once in half the peer's idle-time-out (the
+ * number of OPENED) while nothing else is sent. Kind WROTE, or, where the connection is over, END: the engine has stopped. Refusals: 9, 8, 20 (phase). */
 uint8_t hisproat_on_tick(uint8_t *state, size_t state_len, uint8_t *output, size_t output_len, uint8_t *answer, size_t answer_len);
 
 /* No more bytes will come. The engine has stopped. Where an Open was sent and no Close, a Close with an error is written, for a peer that still reads.
- * Kind NONE. Refusals: 9, 20 (stopped). */
+ * The outcome is FINE after this side's Close with an error, or its Close before the peer's Open (the states DISCARDING and CLOSE_PIPE), and where the connection was
+ * over; else TRANSPORT_ERROR, also after a Close without an error that was not answered and while awaiting; and ILLEGAL_STATE before this side's Open.
+ * Kind NONE. Refusals: 9, 8, 20 (stopped). */
 uint8_t hisproat_on_end_of_input(uint8_t *state, size_t state_len, uint8_t *output, size_t output_len, uint8_t *answer, size_t answer_len);
 
 /* A body could not be handed to its session (NOT_FOUND), or, where new_session is not 0, a session that the peer began (a listener's) could not be taken
- * (NOT_IMPLEMENTED). Writes a Close that tells the peer, and awaits the peer's. Kind NONE. Refusals: 9, 20 (phase). */
+ * (NOT_IMPLEMENTED). Writes a Close that tells the peer, and awaits the peer's. Kind NONE. Refusals: 9, 8, 20 (phase). */
 uint8_t hisproat_on_not_delivered(uint8_t *state, size_t state_len, uint8_t new_session, uint8_t *output, size_t output_len, uint8_t *answer,
                                   size_t answer_len);
 
-/* ---- Readers. They change nothing but the answer. Refusals: 8, 9. */
+/* ---- Readers. They change nothing but the answer. Refusals: 9, 8. */
 
 /* What the engine is: HISPROAT_STATUS_AT_.. */
 uint8_t hisproat_status(const uint8_t *state, size_t state_len, uint8_t *answer, size_t answer_len);
@@ -363,10 +376,11 @@ uint8_t hisproat_tied_handle(const uint8_t *state, size_t state_len, uint16_t ch
 
 /* ---- Small helpers, not in the archive */
 
-/* The output that a call asks for when so many bytes of session frames are lent to it. */
-static inline size_t hisproat_room(size_t lent)
+/* The output that hisproat_on_incoming, hisproat_on_close and hisproat_on_close_with_error ask for when so many bytes of waiting frames are lent to them. Each of these
+ * frames is written in at most twice its bytes. */
+static inline size_t hisproat_room(size_t waiting_len)
 {
-    return (size_t)HISPROAT_OUTPUT_ROOM + 2 * lent;
+    return (size_t)HISPROAT_OUTPUT_ROOM + 2 * waiting_len;
 }
 
 /* The big-endian number of `width` bytes, at most 8, that starts at `at`. */

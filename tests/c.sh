@@ -1,5 +1,6 @@
 #!/usr/bin/env bash
-# Tests of the C side: the headers as C and as C++, the example, the tests through C (under valgrind too), the frame reader, and the example hub against its stored output.
+# Tests of the C side: the headers as C and as C++, the example, the tests through C (under valgrind too), the frame reader, and the example hub against its stored output
+# and with damaged pads.
 # Usage: tests/c.sh [ARCHIVE]; without ARCHIVE the library is built by rt, with the kit that keeps the module of it for tests/fuzz.sh. Installs gcc, g++ and valgrind where they are missing.
 # The last line is 'c.sh: N parts passed', and the exit status 0, where nothing was wrong.
 set -euo pipefail
@@ -12,10 +13,10 @@ work=target/c
 mkdir -p "$work"
 if [ $# -eq 0 ]; then
     archive=target/staticlib/libhisproat.a
-    RATTLE_HOME="$(bash tests/fuzz.sh kit)" rt staticlib hisproat > "$work/staticlib.log" 2>&1 || { cat "$work/staticlib.log" >&2; exit 1; }
+    RATTLE_HOME="$(bash tests/fuzz.sh kit)" tests/prove.sh staticlib hisproat
 fi
 reader=target/staticlib/libframe_reader.a
-rt staticlib frame_reader > "$work/reader.log" 2>&1 || { cat "$work/reader.log" >&2; exit 1; }
+tests/prove.sh staticlib frame_reader
 warnings=(-Wall -Wextra -Werror -pedantic -Iinclude)
 parts=0
 
@@ -50,6 +51,11 @@ passed "the library through C"
 valgrind --error-exitcode=1 -q "$work/crossing" | tail -n 1
 passed "the same under valgrind"
 
+stated=$(sed -n 's/.*The most that was measured is \([0-9,]*\) bytes.*/\1/p' include/hisproat.h | tr -d ,)
+stack=$("$work/speed" stack)
+[ "$stack" -le "$stated" ] || { echo "c.sh: a call uses $stack bytes of stack, and the header says $stated" >&2; exit 1; }
+passed "no call uses more stack than the header says: $stack bytes"
+
 gcc -std=c11 -O2 "${warnings[@]}" tests/c/frame_reader.c "$reader" "$archive" -o "$work/frame_reader"
 "$work/frame_reader"
 passed "the frame reader, beside the engine"
@@ -57,5 +63,8 @@ passed "the frame reader, beside the engine"
 "$work/hub" examples/pads.amqp | diff - examples/hub.out
 valgrind --error-exitcode=1 -q "$work/hub" examples/pads.amqp | diff - examples/hub.out
 passed "the hub counts what its stored output has"
+
+python3 tests/bad_pads.py "$work/hub"
+passed "a pad that is damaged ends its own line only"
 
 echo "c.sh: $parts parts passed"

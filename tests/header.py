@@ -2,7 +2,8 @@
 """Holds the headers in include/ to the Rattle sources. Run in the repository's top folder.
 
 Sizes and limits, outcomes, states and kinds must be the same numbers under the same names, in both directions; the places in an answer must fill it; and every
-exported function must have a prototype with the same parameters, a slice being a pointer and a length. A fault is a line of its own.
+exported function must have a prototype with the same parameters, by type and by name and in the same order: a slice `x` is a pointer `x` and a length `x_len`. A
+fault is a line of its own.
 """
 import re
 import sys
@@ -34,12 +35,13 @@ ANSWERS = [
     ("HISPROAT_FRAME_AT_CONSUMED", 8, "HISPROAT_FRAME_SIZE"),
 ]
 
-C_TYPES = {
-    "u8": ["uint8_t"],
-    "u16": ["uint16_t"],
-    "u32": ["uint32_t"],
-    "&[u8]": ["const uint8_t *", "size_t"],
-    "&mut[u8]": ["uint8_t *", "size_t"],
+# a parameter of each type as C declares it, its name in the place of {}
+C_PARAMETERS = {
+    "u8": ["uint8_t {}"],
+    "u16": ["uint16_t {}"],
+    "u32": ["uint32_t {}"],
+    "&[u8]": ["const uint8_t *{}", "size_t {}_len"],
+    "&mut[u8]": ["uint8_t *{}", "size_t {}_len"],
 }
 
 
@@ -67,18 +69,19 @@ def arms(path, function, enum):
 
 
 def exported(path):
-    """Each exported function's parameters, as C has them."""
+    """Each exported function's parameters, as C declares them."""
     found = {}
-    for name, inside in re.findall(r'pub extern "C" fn (\w+)\s*\((.*?)\)\s*->\s*u8\b', source(path), re.S):
-        types = [p.split(":", 1)[1] for p in inside.split(",") if ":" in p]
-        found[name] = [c for t in types for c in C_TYPES.get(re.sub(r"\s+", "", t), [f"{t.strip()}, which C does not have"])]
+    for function, inside in re.findall(r'pub extern "C" fn (\w+)\s*\((.*?)\)\s*->\s*u8\b', source(path), re.S):
+        parameters = [p.strip().split(":", 1) for p in inside.split(",") if ":" in p]
+        declared = [(name, C_PARAMETERS.get(re.sub(r"\s+", "", kind), ["{}, whose type C does not have"])) for name, kind in parameters]
+        found[function] = [form.format(name) for name, forms in declared for form in forms]
     return found
 
 
 def prototypes(header):
     found = {}
-    for name, inside in re.findall(r"^uint8_t (hisproat_\w+)\((.*?)\);", header, re.S | re.M):
-        found[name] = [re.sub(r"\w+$", "", p.strip()).strip() for p in inside.split(",")]
+    for function, inside in re.findall(r"^uint8_t (hisproat_\w+)\((.*?)\);", header, re.S | re.M):
+        found[function] = [re.sub(r"\s+", " ", parameter.strip()) for parameter in inside.split(",")]
     return found
 
 

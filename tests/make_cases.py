@@ -992,11 +992,8 @@ def make_written():
 def make_session_written():
     title('Session frames written')
 
-    def lend(text):
-        return ROOM + 2 * size(text)
-
-    def case_session(text, answer, source, highest=7, limit=16384, room=None):
-        case('w', [lend(text) if room is None else room, limit, highest], [text], answer, source)
+    def case_session(text, answer, source, highest=7, limit=16384, room=ROOM):
+        case('w', [room, limit, highest], [text], answer, source)
 
     def rewritten(code, fields, source, channel=3, payload='', forms=('80', list32)):
         """Fields as pairs, as they are lent and as they are written."""
@@ -1086,11 +1083,11 @@ def make_session_written():
     case_session(text, wrote(grown), over, limit=size(grown))
     case_session(text, 'refused 27', over, limit=size(grown) - 1)
 
-    room = 'document 01, lent output under 16,384 bytes plus twice the slice'
+    room = 'document 01, lent output under 16,384 bytes'
     text = frame(3, ATTACH)
     for off, answer in ((0, wrote(text)), (1, wrote(text)), (-1, 'refused 9')):
-        case_session(text, answer, room, room=lend(text) + off)
-    case_session(text, 'refused 9', room, room=16384)
+        case_session(text, answer, room, room=ROOM + off)
+    case_session(frame(3, TRANSFER, 'AB*20000'), 'refused 9', room, room=16383)
     case_session('', 'refused 1', 'document 01, frame under 4')
     case_session('', 'refused 9', room, room=16383)
     case_session(join(text, 'FFFF'), wrote(text), "document 01, a lone one's bytes past its length are not looked at")
@@ -1104,7 +1101,7 @@ def make_session_written():
         case_session(text, 'refused %d' % k, 'document 01, ' + why)
         case_session(text, 'refused %d' % k, 'document 01, %d before 27' % k, limit=0)
     for text, k, why in refusals[:3] + refusals[-2:]:
-        case_session(text, 'refused 9', 'document 01, 9 before %d' % k, room=lend(text) - 1)
+        case_session(text, 'refused 9', 'document 01, 9 before %d' % k, room=ROOM - 1)
 
 
 HEAD = """\

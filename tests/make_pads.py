@@ -6,11 +6,13 @@ A pad's pieces one after the other are what it sends on its connection: a header
 next, are from a fixed pseudo-random sequence. The frames are made here by hand from Parts 1 and 2 of the standard.
 
 The story, in five scenes. Pieces of different pads are mixed within a scene, not across scenes.
-1. The pads A, B and C connect, begin a session each and send presses. A is on lane 1, B on lane 2, C on lane 3.
-2. B is replaced: the pad D connects for lane 2, and begins a session. The hub takes it, and ends B's session.
-3. B has not heard of that yet: presses that it sent before still arrive, between those of D and of the others.
+1. The pads A, B and C connect, begin a session each and send presses. A is on lane 1, B on lane 2, C on lane 3. So do E on lane 4 and H on lane 6.
+2. B is replaced: the pad D connects for lane 2, and begins a session. The hub takes it, and ends B's session. On lane 5 the pad F comes, which wants to speak
+   SASL first, and then G, which is no pad: it sends an HTTP request.
+3. B has not heard of that yet: presses that it sent before still arrive, between those of D and of the others. E ends a session that it has not got, and goes on
+   with presses for the one that it has. H sends a press with a message that is longer than the hub takes, and goes on too.
 4. B hears it, ends its session too and closes. A ends its session and begins a new one on the same channel.
-5. A, C and D send a few more presses. A and D end their sessions and close; C is switched off.
+5. A, C and D send a few more presses. A and D end their sessions and close; C is switched off. E has heard that the hub has closed its line, and closes too.
 """
 import struct
 import sys
@@ -44,6 +46,10 @@ def string(text):
     return bytes([0xA1, len(text)]) + text.encode()
 
 
+def symbol(text):
+    return bytes([0xA3, len(text)]) + text.encode()
+
+
 def binary(data):
     return bytes([0xA0, len(data)]) + data
 
@@ -71,6 +77,22 @@ def presses(channel, first, count):
     return out
 
 
+def long_press(channel, n, size):
+    """A press whose message is a text of so many bytes."""
+    message = b'\x00\x53\x77\xB1' + struct.pack('>I', size) + b'press ' * (size // 6) + b'!' * (size % 6)
+    return frame(channel, described(TRANSFER, uint(0), uint(n), binary(bytes([n])), uint(0), TRUE) + message)
+
+
+def sasl():
+    """The header of the SASL layer, and a sasl-init: a frame of type 1."""
+    body = described(0x41, symbol('ANONYMOUS'))
+    return b'AMQP\x03\x01\x00\x00' + struct.pack('>IBBH', 8 + len(body), 2, 1, 0) + body
+
+
+def http():
+    return b'GET /lanes/5 HTTP/1.1\r\nHost: hub\r\n\r\n'
+
+
 def end(channel):
     return frame(channel, described(END))
 
@@ -79,14 +101,15 @@ def close():
     return frame(0, described(CLOSE))
 
 
-A, B, C, D = range(4)
+A, B, C, D, E, F, G, H = range(8)
 
 SCENES = [
-    {A: hello('pad-a') + session(0, 1) + presses(0, 0, 9), B: hello('pad-b') + session(0, 2) + presses(0, 0, 7), C: hello('pad-c') + session(5, 3) + presses(5, 0, 8)},
-    {D: hello('pad-d') + session(3, 2)},
-    {A: presses(0, 9, 3), B: presses(0, 7, 5), C: presses(5, 8, 4), D: presses(3, 0, 6)},
-    {A: end(0) + session(0, 1) + presses(0, 0, 4), B: end(0) + close(), C: presses(5, 12, 2), D: presses(3, 6, 3)},
-    {A: presses(0, 4, 2) + end(0) + close(), C: presses(5, 14, 3), D: presses(3, 9, 5) + end(3) + close()},
+    {A: hello('pad-a') + session(0, 1) + presses(0, 0, 9), B: hello('pad-b') + session(0, 2) + presses(0, 0, 7), C: hello('pad-c') + session(5, 3) + presses(5, 0, 8),
+     E: hello('pad-e') + session(0, 4) + presses(0, 0, 5), H: hello('pad-h') + session(2, 6) + presses(2, 0, 6)},
+    {D: hello('pad-d') + session(3, 2), F: sasl(), G: http()},
+    {A: presses(0, 9, 3), B: presses(0, 7, 5), C: presses(5, 8, 4), D: presses(3, 0, 6), E: end(6) + presses(0, 5, 4), H: long_press(2, 6, 2000) + presses(2, 7, 3)},
+    {A: end(0) + session(0, 1) + presses(0, 0, 4), B: end(0) + close(), C: presses(5, 12, 2), D: presses(3, 6, 3), E: presses(0, 9, 4)},
+    {A: presses(0, 4, 2) + end(0) + close(), C: presses(5, 14, 3), D: presses(3, 9, 5) + end(3) + close(), E: close()},
 ]
 
 

@@ -479,14 +479,16 @@ static void every_event(Tally *t)
             refused(&late, order, 20, "every other event of an engine that awaits a Close");
         order.answer_short = 1;
         refused(&fresh, order, 9, "an answer of 41 bytes");
-        refused(&broken, order, 8, "8 for the state comes before 9 for the answer");
+        refused(&broken, order, 9, "9 for the answer comes before 8 for the state");
+        refused(&over, order, 9, "9 for the answer comes before 20");
         order.answer_short = HISPROAT_ANSWER_SIZE;
         refused(&fresh, order, 9, "an answer of no bytes");
         order.answer_short = 0;
         order.output_short = 1;
         if (writes((Event)i)) {
             refused(&fresh, order, 9, "an output that is a byte too small");
-            refused(&over, order, 9, "9 comes before 20");
+            refused(&broken, order, 9, "9 for the output comes before 8 for the state");
+            refused(&over, order, 9, "9 for the output comes before 20");
         }
     }
     drop_engine(&fresh);
@@ -585,7 +587,7 @@ static void told_by_close(Engine *e, Said said, uint8_t detail, uint8_t outcome,
 
 static void fine(Tally *t)
 {
-    Piece close = frame(0, CLOSE), sasl = hex("414D5150 03010000");
+    Piece close = frame(0, CLOSE), header = hex(HEADER), sasl = hex("414D5150 03010000");
     Engine e = opened(t, 0);
     check(t, !close_order(&e, none()).stopped, "a close order does not stop an engine");
     ends_with(&e, incoming(&e, of(&close), 0), HISPROAT_OUTCOME_FINE, "closed from this side");
@@ -597,6 +599,13 @@ static void fine(Tally *t)
     e = opened(t, 0);
     close_error(&e, "amqp:connection:forced", "", none());
     ends_with(&e, end_of_input(&e), HISPROAT_OUTCOME_FINE, "the input ends after a Close with an error");
+    e = new_engine(t, 0, p1());
+    send_header(&e);
+    receive_header(&e, of(&header));
+    send_open(&e);
+    close_order(&e, none());
+    check(t, status(&e).state == HISPROAT_STATE_CLOSE_PIPE, "a Close before the peer's Open");
+    ends_with(&e, end_of_input(&e), HISPROAT_OUTCOME_FINE, "the input ends after it");
 }
 
 /* Frames that cannot be read, with the refusal of each and how many bytes are consumed. */
@@ -607,7 +616,7 @@ static const struct {
 } UNREADABLE[] = {
     { "00000007 02000000", 3, 0 },                       /* a length under 8 */
     { "00001001 02000000", 4, 0 },                       /* a byte over the reading limit of 4096, judged before the rest is there */
-    { "00000009 03000000 00", 5, 9 },                    /* a doff that is not 2 */
+    { "0000000C 03000000 00000000", 5, 12 },             /* a doff that is not 2 */
     { "00000008 02010000", 5, 8 },                       /* a type that is not 0 */
     { "0000000A 02000000 0053", 6, 10 },                 /* a body that is cut off */
     { "0000000E 02000000 00 A301 61 45 40", 6, 14 },     /* a symbolic descriptor */
@@ -640,6 +649,48 @@ static void too_long(Tally *t)
     ends_with(&e, said, HISPROAT_OUTCOME_TRANSPORT_ERROR, "a frame that is too long to send");
     free(longest);
     free(longer);
+}
+
+/* A lone frame asks for 16,384 bytes of output, however long it is. */
+static void too_long_for_any(Tally *t)
+{
+    static const size_t LONG[] = { 16384, 16385, 20000, 65535 };
+    Piece open_of_all = frame(0, "005310 C0 0A 03 A10168 40 70FFFFFFFF");
+    for (size_t i = 0; i < sizeof LONG / sizeof LONG[0]; i++) {
+        uint8_t *bytes = long_transfer(LONG[i]);
+        Order order = { .event = ON_OUTGOING, .input = { bytes, LONG[i] }, .output_short = 1 };
+        Engine e = new_engine(t, 0, p1());
+        open_with(&e, of(&open_of_all));
+        refused(&e, order, 9, "16,383 bytes of output");
+        order.output_short = 0;
+        Said said = perform(&e, order);
+        if (LONG[i] <= 16384) {
+            check(t, said.kind == HISPROAT_KIND_WROTE && same(wire(&e), order.input), "the longest frame, into 16,384 bytes");
+            drop_engine(&e);
+        } else {
+            check(t, said.kind == HISPROAT_KIND_REFUSED && said.detail == HISPROAT_REFUSED_OVER_WRITING_LIMIT, "a longer one is judged, and is 27");
+            ends_with(&e, said, HISPROAT_OUTCOME_TRANSPORT_ERROR, "a frame that is too long to send");
+        }
+        free(bytes);
+    }
+}
+
+/* Waiting frames ask for twice their bytes besides, and for no byte more. */
+static void waiting_room(Tally *t)
+{
+    Piece close = frame(0, CLOSE), waiting = joined(frame(0, TRANSFER), frame(0, END)), all = joined(waiting, close);
+    Order orders[] = { { .event = ON_INCOMING, .input = of(&close) }, { .event = ON_CLOSE }, { .event = ON_CLOSE_WITH_ERROR, .input = text("a:b") } };
+    for (size_t i = 0; i < 3; i++) {
+        Engine e = opened(t, 1);
+        Order order = orders[i];
+        order.waiting = of(&waiting);
+        order.output_short = 1;
+        refused(&e, order, 9, "a byte less than 16,384 and twice the waiting frames");
+        order.output_short = 0;
+        Said said = perform(&e, order);
+        check(t, said.refused == 0 && e.wire_len > waiting.len && memcmp(e.wire, all.at, waiting.len) == 0, "the waiting frames go out");
+        drop_engine(&e);
+    }
 }
 
 /* Waiting frames that cannot be sent: those before them go out, and the error path decides the rest. */
@@ -679,9 +730,14 @@ static void transport_error(Tally *t)
         ends_with(&e, said, HISPROAT_OUTCOME_TRANSPORT_ERROR, "a frame that cannot be read");
     }
     too_long(t);
+    too_long_for_any(t);
+    waiting_room(t);
     waiting_unsent(t);
     Engine e = awaiting(t);
     ends_with(&e, end_of_input(&e), HISPROAT_OUTCOME_TRANSPORT_ERROR, "the input ends while the peer's Close is awaited");
+    e = opened(t, 0);
+    close_order(&e, none());
+    ends_with(&e, end_of_input(&e), HISPROAT_OUTCOME_TRANSPORT_ERROR, "the input ends after a Close without an error, which is not answered");
 }
 
 static void illegal_state(Tally *t)
@@ -764,6 +820,110 @@ static void outcomes(Tally *t)
     remote_closed(t);
 }
 
+/* ---- Kept as in the Rust, against Part 2: the rows of docs/DIFFERENCES.md, and what the header says about them */
+
+/* A listener with one session of the peer's, on the peer's channel 0 and with the handle 100. */
+static Engine with_session(Tally *t)
+{
+    Engine e = opened(t, 1);
+    Piece begins = begin(0), answer = begin_for(0, 0);
+    check(t, incoming(&e, of(&begins), 100).kind == HISPROAT_KIND_BEGAN, "the peer begins a session");
+    check(t, outgoing(&e, of(&answer)).kind == HISPROAT_KIND_WROTE, "which is answered");
+    return e;
+}
+
+/* After a close order the frames that are still on their way are 20, the first one as well as the next. */
+static void closed_under_traffic(Tally *t)
+{
+    Piece flow = hex("0000000C 02000000 005313 45"), transfer = frame(0, TRANSFER);
+    Engine e = with_session(t);
+    close_order(&e, none());
+    Said said = incoming(&e, of(&flow), 0);
+    check(t, said.kind == HISPROAT_KIND_REFUSED && said.detail == 20 && !said.stopped && said.written == 0, "a session's frame after the close order");
+    check(t, said.number == 0 && said.body_length == 0, "it is not handed on");
+    refused(&e, (Order){ .event = ON_OUTGOING, .input = of(&transfer) }, 20, "nothing goes out while the Close is awaited");
+    ends_with(&e, incoming(&e, of(&flow), 0), HISPROAT_OUTCOME_ILLEGAL_STATE, "the next one stops the engine");
+    e = with_session(t);
+    close_order(&e, none());
+    said = outgoing(&e, of(&transfer));
+    check(t, said.kind == HISPROAT_KIND_REFUSED && said.detail == 20 && said.written == 0, "a frame to be sent after the close order");
+    check(t, status(&e).phase == HISPROAT_PHASE_AWAITING && status(&e).outcome == HISPROAT_OUTCOME_ILLEGAL_STATE, "is an error of this side's own");
+    drop_engine(&e);
+}
+
+/* The two ways to a clean end: the sessions end first, or the Close has an error, after which frames are passed over. */
+static void closed_cleanly(Tally *t)
+{
+    Piece end = frame(0, END), flow = frame(0, FLOW), close = frame(0, CLOSE);
+    Engine e = with_session(t);
+    check(t, outgoing(&e, of(&end)).kind == HISPROAT_KIND_WROTE, "this side ends the session");
+    check(t, incoming(&e, of(&flow), 0).kind == HISPROAT_KIND_FORWARD, "frames still come");
+    check(t, incoming(&e, of(&end), 0).detail == HISPROAT_END, "until the peer's End");
+    close_order(&e, none());
+    ends_with(&e, incoming(&e, of(&close), 0), HISPROAT_OUTCOME_FINE, "a close order after the sessions have ended");
+    e = with_session(t);
+    close_error(&e, "amqp:connection:forced", "", none());
+    check(t, incoming(&e, of(&flow), 0).kind == HISPROAT_KIND_NOTHING, "after a Close with an error a frame is passed over");
+    ends_with(&e, incoming(&e, of(&close), 0), HISPROAT_OUTCOME_FINE, "a close order with an error under traffic");
+}
+
+/* A Begin on a channel that is tied replaces the tie; freeing an outgoing channel leaves it. */
+static void tie_replaced(Tally *t)
+{
+    Piece first = hex("00000014 02000005 005311 C00704 600002 434343"), second = hex("00000014 02000005 005311 C00704 600001 434343"), also = begin_for(6, 1), attach = frame(5, ATTACH), end = frame(5, END), begins = begin(0);
+    Engine e = wall_opened(t, 4);
+    check(t, incoming(&e, of(&first), 0).number == 12 && tied_handle(&e, 5) == 12, "a Begin ties a channel");
+    check(t, incoming(&e, of(&second), 0).number == 11 && tied_handle(&e, 5) == 11, "a second one on the same channel ties it to another handle");
+    check(t, incoming(&e, of(&attach), 0).number == 11, "which its frames then reach");
+    check(t, incoming(&e, of(&also), 0).number == 11 && tied_handle(&e, 5) == 11 && tied_handle(&e, 6) == 11, "two channels may be tied to one handle");
+    check(t, deallocate(&e, 1).number == 11 && tied_handle(&e, 5) == 11, "freeing its outgoing channel leaves the ties");
+    check(t, incoming(&e, of(&end), 0).number == 11 && tied_handle(&e, 5) == -1 && tied_handle(&e, 6) == 11, "an End ends the tie of its own channel");
+    drop_engine(&e);
+    e = opened(t, 1);
+    for (uint32_t i = 0; i < 2; i++)
+        check(t, incoming(&e, of(&begins), 100 + i).kind == HISPROAT_KIND_BEGAN && tied_handle(&e, 0) == 100 + i, "a listener's new session on a tied channel");
+    check(t, handle_at(&e, 0) == 100 && status(&e).taken == 2, "the outgoing channel of the first stays taken");
+    drop_engine(&e);
+}
+
+/* An Open on a channel other than 0, an empty frame before it, and a max-frame-size under 512 are taken. */
+static void opened_oddly(Tally *t)
+{
+    Piece empty = hex("00000008 02000000"), header = hex(HEADER), open_on_3 = hex("00000011 02000003 005310 C00401 A10168");
+    Piece open_of_0 = hex("00000013 02000000 005310 C00603 A10168 40 43");
+    Engine e = new_engine(t, 1, p1());
+    receive_header(&e, of(&header));
+    send_header(&e);
+    check(t, incoming(&e, of(&empty), 0).kind == HISPROAT_KIND_NOTHING, "an empty frame before the Open");
+    Engine other = copy_of(&e);
+    check(t, incoming(&e, of(&open_on_3), 0).kind == HISPROAT_KIND_OPENED && status(&e).state == HISPROAT_STATE_OPEN_RECEIVED, "an Open on channel 3");
+    check(t, status(&e).writing_limit == 16384, "without a max-frame-size, which is then 16384");
+    check(t, incoming(&other, of(&open_of_0), 0).kind == HISPROAT_KIND_OPENED && status(&other).writing_limit == 512, "a max-frame-size of 0 counts as 512");
+    drop_engine(&e);
+    drop_engine(&other);
+}
+
+/* A dialler takes no session that the peer begins. */
+static void session_not_taken(Tally *t)
+{
+    Piece of_proton = hex("0000001A 02000000 005311 C00D04 40 43 707FFFFFFF 707FFFFFFF");
+    Engine e = opened(t, 0);
+    Said said = incoming(&e, of(&of_proton), 7);
+    check(t, said.kind == HISPROAT_KIND_REFUSED && said.detail == HISPROAT_REFUSED_NOT_IMPLEMENTED, "a Begin without a remote-channel, as Proton's server writes it");
+    check(t, status(&e).phase == HISPROAT_PHASE_AWAITING && status(&e).outcome == HISPROAT_OUTCOME_NOT_IMPLEMENTED, "it closes the connection");
+    drop_engine(&e);
+}
+
+static void kept(Tally *t)
+{
+    t->part = "kept as in the Rust";
+    closed_under_traffic(t);
+    closed_cleanly(t);
+    tie_replaced(t);
+    opened_oddly(t);
+    session_not_taken(t);
+}
+
 /* ---- Sizes: states, answers and statuses of exactly the constants' sizes, and a byte more and less */
 
 static void state_size(Tally *t, size_t len, uint8_t returned)
@@ -779,14 +939,20 @@ static void state_size(Tally *t, size_t len, uint8_t returned)
     give_back(t, &id);
 }
 
-/* A sound engine's bytes, cut off or with a byte behind them, are refused by each event too. */
+/* A sound engine's bytes, cut off or with a byte behind them, are refused by each event too, after a small answer or output. */
 static void other_length(Tally *t, size_t len)
 {
     Engine whole = new_engine(t, 0, p1()), other = { .tally = t, .state = lend_pattern(t, len) };
     Piece header = hex(HEADER), transfer = frame(0, TRANSFER);
     memcpy(other.state.at, whole.state.at, len < whole.state.len ? len : whole.state.len);
-    for (int i = 0; i < EVENTS; i++)
-        refused(&other, any_order((Event)i, &header, &transfer), 8, "an event on a state of another size");
+    for (int i = 0; i < EVENTS; i++) {
+        Order order = any_order((Event)i, &header, &transfer);
+        refused(&other, order, 8, "an event on a state of another size");
+        order.output_short = 1;
+        refused(&other, order, writes((Event)i) ? 9 : 8, "a small output and a state of another size");
+        order.answer_short = 1;
+        refused(&other, order, 9, "a small answer and a state of another size");
+    }
     drop_engine(&whole);
     drop_engine(&other);
 }
@@ -801,9 +967,11 @@ static void reader_sizes(Tally *t, size_t status_len, size_t handle_len, uint8_t
     check(t, is_patterned(&answer, returned ? 0 : HISPROAT_STATUS_SIZE), "the rest of a status is as it was");
     check(t, is_patterned(&at, returned ? 0 : HISPROAT_HANDLE_SIZE) && is_patterned(&tied, returned ? 0 : HISPROAT_HANDLE_SIZE), "and of a handle");
     e.state.at[0] ^= 1;
-    check(t, hisproat_status(e.state.at, e.state.len, answer.at, answer.len) == 8, "a status of no engine");
-    check(t, hisproat_handle_at(e.state.at, e.state.len, 0, at.at, at.len) == 8, "a handle of no engine");
-    check(t, hisproat_tied_handle(e.state.at, e.state.len, 0, tied.at, tied.len) == 8, "a tied handle of no engine");
+    uint8_t broken = returned ? returned : 8; /* 9 comes before 8 */
+    check(t, hisproat_status(e.state.at, e.state.len, answer.at, answer.len) == broken, "a status of no engine");
+    check(t, hisproat_handle_at(e.state.at, e.state.len, 0, at.at, at.len) == broken, "a handle of no engine");
+    check(t, hisproat_tied_handle(e.state.at, e.state.len, 0, tied.at, tied.len) == broken, "a tied handle of no engine");
+    check(t, hisproat_status(e.state.at, e.state.len - 1, answer.at, answer.len) == broken, "a status of a state of another size");
     give_back(t, &answer);
     give_back(t, &at);
     give_back(t, &tied);
@@ -843,7 +1011,7 @@ static void sizes(Tally *t)
 int main(int argc, char **argv)
 {
     Tally t = { .part = "" }, totals = { .part = "" };
-    void (*const parts[])(Tally *) = { wall, conversation, refusals, outcomes, sizes };
+    void (*const parts[])(Tally *) = { wall, conversation, refusals, outcomes, kept, sizes };
     size_t count = sizeof parts / sizeof parts[0];
     for (size_t i = 0; i < count; i++) {
         parts[i](&t);

@@ -498,8 +498,8 @@ static uint8_t call(Round *r, const Call *c)
 
 /* ---- What the header foretells */
 
-/* The session frames that are lent. */
-static Bytes lent_frames(const Call *c)
+/* The frames that wait. */
+static Bytes waiting_frames(const Call *c)
 {
     switch (c->function) {
     case ON_INCOMING:
@@ -507,7 +507,6 @@ static Bytes lent_frames(const Call *c)
     case ON_CLOSE_WITH_ERROR:
         return c->in[2];
     case ON_CLOSE:
-    case ON_OUTGOING:
         return c->in[0];
     default:
         return none();
@@ -597,7 +596,7 @@ static int event_refused(const Call *c, const uint8_t *s)
 {
     static const uint32_t SENDS_HEADER = BIT(HISPROAT_STATE_START) | BIT(HISPROAT_STATE_HEADER_RECEIVED);
     static const uint32_t SENDS_OPEN = BIT(HISPROAT_STATE_HEADER_EXCHANGE) | BIT(HISPROAT_STATE_OPEN_RECEIVED) | BIT(HISPROAT_STATE_HEADER_SENT);
-    Bytes frames = lent_frames(c);
+    Bytes waiting = waiting_frames(c);
     switch (c->function) {
     case ON_SEND_HEADER:
         return BIT(s[AT_STATE]) & SENDS_HEADER ? 0 : HISPROAT_REFUSED_ILLEGAL_STATE;
@@ -612,30 +611,34 @@ static int event_refused(const Call *c, const uint8_t *s)
     case ON_INCOMING:
         if (frame_refused(c->in[0], hisproat_number(s + AT_READING_LIMIT, 4)) == HISPROAT_REFUSED_BYTES_MISSING)
             return HISPROAT_REFUSED_BYTES_MISSING;
-        return frames.len > 0 ? sent_refused(frames) : 0;
+        return waiting.len > 0 ? sent_refused(waiting) : 0;
     case ON_OUTGOING:
-        return sent_refused(frames);
+        return sent_refused(c->in[0]);
     default:
-        return frames.len > 0 ? sent_refused(frames) : 0;
+        return waiting.len > 0 ? sent_refused(waiting) : 0;
     }
+}
+
+/* Whether the answer, and where there is one the output, are too small. */
+static int lacks_room(const Call *c)
+{
+    return c->answer_len < ABOUT[c->function].answer_size || (ABOUT[c->function].has_output && c->output_len < hisproat_room(waiting_frames(c).len));
 }
 
 /* The number that is to be returned, or DEPENDS. */
 static int foretold(const Call *c, const uint8_t *s)
 {
     int in_time = c->function == ON_INCOMING || c->function == ON_END_OF_INPUT ? s[AT_PHASE] != HISPROAT_PHASE_STOPPED : s[AT_PHASE] == HISPROAT_PHASE_RUNNING;
+    if (c->function < NEW_DIALLER && lacks_room(c))
+        return HISPROAT_REFUSED_NO_ROOM;
     if (c->state_len != HISPROAT_STATE_SIZE)
         return HISPROAT_REFUSED_BEYOND_LIMITS;
     if (c->function >= NEW_DIALLER)
         return are_settings(c) ? 0 : HISPROAT_REFUSED_BEYOND_LIMITS;
     if (!c->sound)
         return HISPROAT_REFUSED_BEYOND_LIMITS;
-    if (c->answer_len < ABOUT[c->function].answer_size)
-        return HISPROAT_REFUSED_NO_ROOM;
     if (c->function >= EVENTS)
         return 0;
-    if (ABOUT[c->function].has_output && c->output_len < hisproat_room(lent_frames(c).len))
-        return HISPROAT_REFUSED_NO_ROOM;
     if (c->function == ON_CLOSE_WITH_ERROR && !is_error(c))
         return HISPROAT_REFUSED_BEYOND_LIMITS;
     return in_time ? event_refused(c, s) : HISPROAT_REFUSED_ILLEGAL_STATE;
@@ -886,7 +889,7 @@ static void make(World *w, Call c)
     Machine *m = &w->engines[w->turn];
     Round first, second;
     c.state_len = w->odd & 1 ? w->lengths[0] % 4096 : HISPROAT_STATE_SIZE;
-    c.output_len = ABOUT[c.function].has_output ? hisproat_room(lent_frames(&c).len) + (w->odd & 2 ? w->lengths[1] % 512 : 256) - 256 : 0;
+    c.output_len = ABOUT[c.function].has_output ? hisproat_room(waiting_frames(&c).len) + (w->odd & 2 ? w->lengths[1] % 512 : 256) - 256 : 0;
     c.answer_len = w->odd & 4 ? w->lengths[2] % 64 : ABOUT[c.function].answer_size + w->calls % 3;
     c.sound = stands(m->state);
     w->calls += 1;

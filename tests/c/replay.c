@@ -119,7 +119,17 @@ static uint8_t call(struct run *run, char *words[MOST_WORDS], struct bytes a, st
     return 0;
 }
 
-/* do NAME ARGUMENT.. */
+/* Which of the lent slices has the frames that wait. */
+static size_t waiting_length(const char *name, struct bytes a, struct bytes b, struct bytes c)
+{
+    if (strcmp(name, "incoming") == 0)
+        return b.length;
+    if (strcmp(name, "close") == 0)
+        return a.length;
+    return strcmp(name, "close-with-error") == 0 ? c.length : 0;
+}
+
+/* do NAME ARGUMENT.. The output has exactly the room that is asked for. */
 static void event(struct run *run, char *words[MOST_WORDS], size_t count)
 {
     struct bytes none = room(0), a = none, b = none, c = none;
@@ -131,7 +141,7 @@ static void event(struct run *run, char *words[MOST_WORDS], size_t count)
     if (count > 5)
         c = read_hex(words[5]);
     free(run->output.at);
-    run->output = room(hisproat_room(a.length + b.length + c.length));
+    run->output = room(hisproat_room(waiting_length(words[1], a, b, c)));
     run->refused = call(run, words, a, b, c);
     run->events++;
     if (a.at != none.at)

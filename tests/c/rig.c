@@ -319,12 +319,6 @@ static void check_refused(Tally *t, const Lent *l, Bytes state_before)
     check(t, is_patterned(&l->answer, 0), "a refusal leaves the answer");
 }
 
-/* The bytes of session frames that are lent, for the room of the output. */
-static size_t lent_frames(const Order *order)
-{
-    return order->event == ON_OUTGOING ? order->input.len : order->waiting.len;
-}
-
 static Order with_slices(Order order)
 {
     if (order.input.at == NULL)
@@ -345,7 +339,7 @@ Said perform(Engine *engine, Order given)
         .input = lend(t, order.input),
         .description = lend(t, order.description),
         .waiting = lend(t, order.waiting),
-        .output = lend_pattern(t, hisproat_room(lent_frames(&order)) - order.output_short),
+        .output = lend_pattern(t, hisproat_room(order.waiting.len) - order.output_short),
         .answer = lend_pattern(t, HISPROAT_ANSWER_SIZE - order.answer_short),
     };
     uint8_t before[HISPROAT_STATE_SIZE + 1];

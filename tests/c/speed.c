@@ -2,8 +2,10 @@
  * What a call through C costs.
  *   speed                               a line for each operation: its name, how many sessions there are, nanoseconds, bytes of stack
  *   speed OPERATION SESSIONS ROUNDS     does so many rounds and prints nothing: for a tool that counts instructions
- * bin/speed makes a table of both. A round is one call; of `pair` it is two, allocate and deallocate. `fault` is a frame for no session, which is answered with a
- * Close; each of its rounds begins by putting the state back.
+ *   speed stack                         the most bytes of stack that any of the operations was seen to use
+ * bin/speed makes a table of the first two. A round is one call; of `pair` it is two, allocate and deallocate. `fault` is a frame for no session, which is answered
+ * with a Close. `deep` is the call that is known to use the most stack: a close order with an error, while an Attach waits whose last field is a list in a list and
+ * so on, down to the sixteenth level. Each round of these two begins by putting the state back.
  */
 #define _POSIX_C_SOURCE 200809L
 
@@ -15,10 +17,13 @@
 #include <string.h>
 #include <time.h>
 
+enum { MOST_WAITING = 128 };
+
 typedef struct {
     uint8_t state[HISPROAT_STATE_SIZE];
     uint8_t set_up[HISPROAT_STATE_SIZE]; /* the state as it was set up */
-    uint8_t output[HISPROAT_OUTPUT_ROOM];
+    uint8_t waiting[MOST_WAITING];
+    uint8_t output[HISPROAT_OUTPUT_ROOM + 2 * MOST_WAITING];
     uint8_t answer[HISPROAT_ANSWER_SIZE];
 } Work;
 
@@ -65,6 +70,31 @@ static uint8_t fault(Work *w)
     return frame_in(w, frame, sizeof frame);
 }
 
+/* An Attach of fourteen fields, of which the last is `lists` lists, one in the other. Returns its length. */
+static size_t deep_attach(uint8_t *frame, unsigned lists)
+{
+    static const uint8_t START[] = { 0, 0, 0, 0, 2, 0, 0, 0, 0x00, 0x53, 0x12, 0xC0, 0, 14, 0x40, 0x40, 0x40, 0x40, 0x40, 0x40, 0x40, 0x40, 0x40, 0x40, 0x40, 0x40, 0x40 };
+    size_t len = sizeof START, end = len + 3 * lists + 1;
+    memcpy(frame, START, len);
+    frame[3] = (uint8_t)end;
+    frame[12] = (uint8_t)(end - 13);
+    for (; len + 1 < end; len += 3) {
+        frame[len] = 0xC0;
+        frame[len + 1] = (uint8_t)(end - len - 2);
+        frame[len + 2] = 1;
+    }
+    frame[len] = 0x40;
+    return end;
+}
+
+static uint8_t deep(Work *w)
+{
+    size_t len = deep_attach(w->waiting, 15);
+    memcpy(w->state, w->set_up, sizeof w->state);
+    return hisproat_on_close_with_error(w->state, sizeof w->state, (const uint8_t *)"amqp:connection:forced", 22, 0, &NOTHING, 0, w->waiting, len, w->output,
+                                        sizeof w->output, w->answer, sizeof w->answer);
+}
+
 static uint8_t status(Work *w)
 {
     return hisproat_status(w->state, sizeof w->state, w->answer, sizeof w->answer);
@@ -73,7 +103,7 @@ static uint8_t status(Work *w)
 static const struct {
     const char *name;
     Round *round;
-} OPERATIONS[] = { { "transfer", transfer }, { "tick", tick }, { "pair", pair }, { "fault", fault }, { "status", status } };
+} OPERATIONS[] = { { "transfer", transfer }, { "tick", tick }, { "pair", pair }, { "fault", fault }, { "deep", deep }, { "status", status } };
 
 enum { COUNT = sizeof OPERATIONS / sizeof OPERATIONS[0] };
 
@@ -143,7 +173,7 @@ static void *one_round(void *job)
     return NULL;
 }
 
-/* How many bytes of a painted stack a thread that does one round leaves untouched. */
+/* How many bytes of a painted stack are left untouched by a thread that does one round. */
 static size_t untouched(Round *round, Work *w)
 {
     enum { STACK = 1 << 20 };
@@ -166,6 +196,11 @@ static size_t untouched(Round *round, Work *w)
     return left;
 }
 
+static size_t stack_of(Round *round, Work *w)
+{
+    return untouched(nothing, w) - untouched(round, w);
+}
+
 static void measure_all(void)
 {
     static const unsigned SESSIONS[] = { 1, 255 };
@@ -173,9 +208,21 @@ static void measure_all(void)
     for (size_t i = 0; i < COUNT; i++)
         for (size_t j = 0; j < sizeof SESSIONS / sizeof SESSIONS[0]; j++) {
             set_up(&w, SESSIONS[j]);
-            size_t idle = untouched(nothing, &w), busy = untouched(OPERATIONS[i].round, &w);
-            printf("%s %u %.0f %zu\n", OPERATIONS[i].name, SESSIONS[j], nanoseconds(OPERATIONS[i].round, &w), idle - busy);
+            size_t stack = stack_of(OPERATIONS[i].round, &w);
+            printf("%s %u %.0f %zu\n", OPERATIONS[i].name, SESSIONS[j], nanoseconds(OPERATIONS[i].round, &w), stack);
         }
+}
+
+static size_t most_stack(void)
+{
+    static Work w;
+    size_t most = 0;
+    for (size_t i = 0; i < COUNT; i++) {
+        set_up(&w, 1);
+        size_t stack = stack_of(OPERATIONS[i].round, &w);
+        most = stack > most ? stack : most;
+    }
+    return most;
 }
 
 int main(int argc, char **argv)
@@ -185,12 +232,16 @@ int main(int argc, char **argv)
         measure_all();
         return 0;
     }
+    if (argc == 2 && strcmp(argv[1], "stack") == 0) {
+        printf("%zu\n", most_stack());
+        return 0;
+    }
     for (size_t i = 0; argc == 4 && i < COUNT; i++)
         if (strcmp(argv[1], OPERATIONS[i].name) == 0) {
             set_up(&w, (unsigned)strtoul(argv[2], NULL, 10));
             rounds(OPERATIONS[i].round, &w, strtoul(argv[3], NULL, 10));
             return 0;
         }
-    fprintf(stderr, "usage: speed [OPERATION SESSIONS ROUNDS]\n");
+    fprintf(stderr, "usage: speed [stack | OPERATION SESSIONS ROUNDS]\n");
     return 2;
 }

@@ -103,35 +103,34 @@ static int are_shared(const uint8_t *s)
     return 1;
 }
 
-/* The incoming channels from `first` on are not tied. */
-static int untied_from(const uint8_t *s, size_t first)
+/* Both limits are 512 until the peer's Open, which sets them. */
+static int are_limits(const uint8_t *s)
 {
-    return all_zero(s + AT_TIES + PLACE * first, PLACE * (256 - first));
+    uint64_t reading = hisproat_number(s + AT_READING_LIMIT, 4), writing = hisproat_number(s + AT_WRITING_LIMIT, 4);
+    if (!s[AT_AGREED])
+        return reading == 512 && writing == 512;
+    return reading == hisproat_number(s + AT_MAX_FRAME_SIZE, 4) && writing >= 512 && writing <= 16384;
 }
 
-/* Without the peer's Open everything but the state is as it was at first. */
-static int is_unopened(const uint8_t *s)
+/* Three states follow the peer's Open, and three its Open or its Close; the others come before both. Nothing is tied before the Open or with it alone, and no tie is above
+ * the local channel-max. */
+static int fits_state(const uint8_t *s)
 {
     uint8_t state = s[AT_STATE];
-    int after = state == HISPROAT_STATE_OPEN_RECEIVED || state == HISPROAT_STATE_OPENED || state == HISPROAT_STATE_CLOSE_SENT;
-    return !after && hisproat_number(s + AT_READING_LIMIT, 4) == 512 && hisproat_number(s + AT_WRITING_LIMIT, 4) == 512 && untied_from(s, 0);
-}
-
-/* With it the limits are agreed, no tie is above the local channel-max, and nothing is tied before both Opens. */
-static int is_opened(const uint8_t *s)
-{
-    uint8_t state = s[AT_STATE];
-    uint64_t writing = hisproat_number(s + AT_WRITING_LIMIT, 4);
-    int before = state <= HISPROAT_STATE_OPEN_CLOSE_PIPE || state == HISPROAT_STATE_OPEN_SENT || state == HISPROAT_STATE_CLOSE_PIPE;
-    return !before && hisproat_number(s + AT_READING_LIMIT, 4) == hisproat_number(s + AT_MAX_FRAME_SIZE, 4) && writing >= 512 && writing <= 16384
-        && untied_from(s, state == HISPROAT_STATE_OPEN_RECEIVED ? 0 : (size_t)s[AT_CHANNEL_MAX] + 1);
+    int after_open = state == HISPROAT_STATE_OPEN_RECEIVED || state == HISPROAT_STATE_OPENED || state == HISPROAT_STATE_CLOSE_SENT;
+    int after_either = state == HISPROAT_STATE_CLOSE_RECEIVED || state == HISPROAT_STATE_DISCARDING || state == HISPROAT_STATE_END;
+    int untied = !s[AT_AGREED] || state == HISPROAT_STATE_OPEN_RECEIVED;
+    size_t first_untied = untied ? 0 : (size_t)s[AT_CHANNEL_MAX] + 1;
+    if (!after_either && s[AT_AGREED] != after_open)
+        return 0;
+    return all_zero(s + AT_TIES + PLACE * first_untied, PLACE * (256 - first_untied));
 }
 
 static int stands(const uint8_t *s)
 {
     int phase = s[AT_PHASE] <= 2 && s[AT_OUTCOME] <= 6 && (s[AT_PHASE] != 0 || s[AT_OUTCOME] == 0);
-    return memcmp(s + AT_VERSION, "HSP1", 4) == 0 && phase && s[AT_STATE] <= 13 && s[AT_ROLE] <= 1 && has_settings(s)
-        && are_places(s + AT_TAKEN) && are_places(s + AT_TIES) && are_shared(s) && (s[AT_AGREED] ? is_opened(s) : is_unopened(s));
+    return memcmp(s + AT_VERSION, "HSP1", 4) == 0 && phase && s[AT_STATE] <= 13 && s[AT_ROLE] <= 1 && has_settings(s) && are_limits(s)
+        && are_places(s + AT_TAKEN) && are_places(s + AT_TIES) && are_shared(s) && fits_state(s);
 }
 
 /* ---- What is done with each altered state */
@@ -239,6 +238,41 @@ static void pairs(Tally *t, const Engine *opened)
     }
 }
 
+/* ---- What the peer's Open settles: a channel-max is agreed exactly where it has come, and then the limits are those that it set */
+
+static void judged(Tally *t, const Engine *engine, size_t place, uint8_t value, uint8_t returned, const char *what)
+{
+    Engine copy = copy_of(engine);
+    uint8_t answer[HISPROAT_STATUS_SIZE];
+    copy.state.at[place] = value;
+    check(t, stands(copy.state.at) == (returned == 0), what);
+    check(t, hisproat_status(copy.state.at, copy.state.len, answer, sizeof answer) == returned, what);
+    drop_engine(&copy);
+}
+
+static void agreed(Tally *t, const Engine *fresh, const Engine *opened)
+{
+    static const uint8_t AFTER_OPEN[] = { HISPROAT_STATE_OPEN_RECEIVED, HISPROAT_STATE_OPENED, HISPROAT_STATE_CLOSE_SENT };
+    static const uint8_t AFTER_EITHER[] = { HISPROAT_STATE_CLOSE_RECEIVED, HISPROAT_STATE_DISCARDING, HISPROAT_STATE_END };
+    for (size_t i = 0; i < 3; i++) {
+        judged(t, fresh, AT_STATE, AFTER_OPEN[i], 8, "nothing is agreed in a state that follows the peer's Open");
+        judged(t, fresh, AT_STATE, AFTER_EITHER[i], 0, "nothing need be agreed where a Close or an error came first");
+        judged(t, opened, AT_STATE, AFTER_EITHER[i], 0, "nor need it be absent");
+        Engine over = copy_of(fresh);
+        over.state.at[AT_STATE] = AFTER_EITHER[i];
+        judged(t, &over, AT_WRITING_LIMIT + 3, 1, 8, "nothing is agreed, and the writing limit is 513");
+        judged(t, &over, AT_READING_LIMIT + 2, 16, 8, "nothing is agreed, and the reading limit is the setting, 4096");
+        judged(t, &over, AT_TAKEN, 1, 8, "nothing is agreed, and a channel is taken");
+        judged(t, &over, AT_TIES, 1, 8, "nothing is agreed, and a channel is tied");
+        drop_engine(&over);
+    }
+    judged(t, opened, AT_STATE, HISPROAT_STATE_CLOSE_SENT, 0, "a Close was sent after the Opens");
+    judged(t, opened, AT_STATE, HISPROAT_STATE_OPEN_SENT, 8, "something is agreed before the peer's Open");
+    judged(t, opened, AT_STATE, HISPROAT_STATE_OPEN_RECEIVED, 8, "channels are tied with the peer's Open alone");
+    judged(t, opened, AT_READING_LIMIT + 2, 2, 8, "something is agreed, and the reading limit is 512, where the setting is 16384");
+    judged(t, opened, AT_WRITING_LIMIT + 2, 2, 0, "something is agreed, and the writing limit is 512");
+}
+
 /* ---- The engines: new; opened, with a long container-id, taken channels, ties and a free list out of order; awaiting; stopped */
 
 static Engine busy(Tally *t)
@@ -268,6 +302,7 @@ void state_bytes(Tally *t, int all_values)
     alter(t, "awaiting", &late, all_values);
     alter(t, "stopped", &over, all_values);
     pairs(t, &open);
+    agreed(t, &fresh, &open);
     drop_engine(&fresh);
     drop_engine(&open);
     drop_engine(&late);

@@ -161,10 +161,10 @@ impl Archive {
     }
 }
 
-fn lent(event: &Event) -> usize {
+/// How many bytes of frames wait: they ask for room.
+fn waiting_len(event: &Event) -> usize {
     match event {
         Event::Incoming { waiting, .. } | Event::Close { waiting } | Event::CloseWithError { waiting, .. } => waiting.len(),
-        Event::Outgoing(frame) => frame.len(),
         _ => 0,
     }
 }
@@ -172,7 +172,7 @@ fn lent(event: &Event) -> usize {
 impl Port for Archive {
     fn event(&mut self, event: &Event) -> Reply {
         let before = self.state.clone();
-        let mut output = vec![0xa5; 16384 + 2 * lent(event)];
+        let mut output = vec![0xa5; 16384 + 2 * waiting_len(event)];
         let mut answer = [0xa5; ANSWER];
         let refused = self.call(event, &mut output, &mut answer);
         if refused != 0 {
