@@ -363,6 +363,13 @@ def nested(levels, kinds):
     return text
 
 
+def at_level(levels, text):
+    """A value that stands at that level."""
+    for _ in range(levels - 1):
+        text = list8([text])
+    return text
+
+
 def make_levels():
     title('Values: sixteen levels and no more')
     value(NULL, 'document 01, sixteen deep')
@@ -374,10 +381,18 @@ def make_levels():
             value(nested(levels, kinds), 'document 01, sixteen deep: level %d in %s' % (levels, name), ends=levels <= 16)
     for inner in ('45', 'C00100', 'C10100'):
         for levels in (16, 17):
-            text = inner
-            for _ in range(levels - 1):
-                text = list8([text])
-            value(text, 'document 01, sixteen deep: an empty list or map at level %d' % levels, ends=levels <= 16)
+            value(at_level(levels, inner), 'document 01, sixteen deep: an empty list or map at level %d' % levels, ends=levels <= 16)
+
+    title('Values: arrays near the last level, with the last at which each may stand')
+    for last, text, name in (
+        (16, 'E00200_40', 'an array of none'), (16, 'F0_00000005_00000000_40', 'an array of none'), (16, 'E00200_E0', 'an array of no arrays'),
+        (15, 'E00201_40', 'an array of one'), (15, 'E00501_E0_020040', 'an array of an array of none'),
+        (14, 'E00500_00_5301_40', 'an array of none, described'), (14, 'E00501_00_5301_40', 'an array of one, described'),
+        (13, 'E00800_00_5301_00_5302_40', 'an array of none, described twice'), (13, 'E00801_00_5301_00_5302_40', 'an array of one, described twice'),
+        (0, 'E00200_57', 'an array of none of an unknown code'), (0, 'E00100', 'an array with no constructor'), (0, 'E00300_4040', 'an array of none and a byte'),
+    ):
+        for levels in range(13, 18):
+            value(at_level(levels, text), 'document 01, sixteen deep, judged where a value stands: %s at level %d' % (name, levels), ends=levels <= last)
 
     title('Values: other numbers of levels')
     source = 'document 01, levels; here their number is an argument'

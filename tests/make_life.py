@@ -9,7 +9,7 @@ def title(text):
 
 
 def call(side, name, number=0, data="-"):
-    lines.append(f"{side} {name} {number} {data}")
+    lines.append(f"{side} {name} {number} {data.upper()}")
 
 
 def frame(channel, body):

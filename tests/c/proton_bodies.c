@@ -194,25 +194,43 @@ void put_value(pn_data_t *tree, Chance *chance, int levels)
     put_of_type(tree, chance, some_type(chance, levels, 1), levels);
 }
 
+/* An array with one level for itself, two with an element, three with a descriptor, whether it has an element or none. */
+static void put_last_array(pn_data_t *tree, Chance *chance, int levels)
+{
+    uint32_t elements = levels == 3 ? below(chance, 2) : (uint32_t)levels - 1;
+    pn_data_put_array(tree, levels == 3, PN_ULONG);
+    pn_data_enter(tree);
+    for (uint32_t i = elements + (levels == 3); i > 0; i--)
+        put_atom(tree, chance, PN_ULONG);
+    pn_data_exit(tree);
+}
+
 void put_chain(pn_data_t *tree, Chance *chance, int levels)
 {
-    pn_type_t type = levels == 1 ? PN_NULL : (pn_type_t)(PN_DESCRIBED + below(chance, 4));
+    pn_type_t type = (pn_type_t)(PN_DESCRIBED + below(chance, 4));
+    if (type == PN_ARRAY && levels < 3 + (int)below(chance, 2)) {
+        put_last_array(tree, chance, levels);
+        return;
+    }
+    if (levels == 1) {
+        put_atom(tree, chance, some_type(chance, levels, 0));
+        return;
+    }
     switch (type) {
-    case PN_NULL: put_atom(tree, chance, some_type(chance, levels, 0)); return;
     case PN_DESCRIBED: pn_data_put_described(tree); break;
     case PN_MAP: pn_data_put_map(tree); break;
-    case PN_ARRAY: pn_data_put_array(tree, 0, levels == 2 ? PN_ULONG : PN_LIST); break;
+    case PN_ARRAY: pn_data_put_array(tree, 0, PN_LIST); break;
     default: pn_data_put_list(tree); break;
     }
     pn_data_enter(tree);
-    if (type != PN_LIST && (type != PN_ARRAY || levels == 2)) /* a descriptor, a key, an element */
+    if (type == PN_DESCRIBED || type == PN_MAP) /* a descriptor, a key */
         put_atom(tree, chance, PN_ULONG);
-    if (type == PN_ARRAY && levels > 2) {
+    if (type == PN_ARRAY) {
         pn_data_put_list(tree);
         pn_data_enter(tree);
         put_chain(tree, chance, levels - 2);
         pn_data_exit(tree);
-    } else if (type != PN_ARRAY) {
+    } else {
         put_chain(tree, chance, levels - 1);
     }
     pn_data_exit(tree);
@@ -608,12 +626,12 @@ static void bodies(Walk *walk, const Code *code, uint64_t count, int level)
     }
 }
 
-/* A constructor and so many bodies of it: a value is a run of one, and the elements of an array are a run. */
+/* A constructor and so many bodies of it: a value is a run of one, and the elements of an array are a run. A level is too deep where a value stands there. */
 static void run(Walk *walk, uint64_t count, int level, int in_array)
 {
     uint8_t first = (uint8_t)take_number(walk, 1);
     const Code *code = code_of(first);
-    if (level > LEVELS)
+    if (level > LEVELS && count > 0)
         find(walk, TOO_DEEP);
     if (code == NULL && first != 0)
         find(walk, BROKEN);

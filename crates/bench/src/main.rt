@@ -14,12 +14,20 @@ mod answers;
 mod calls;
 mod events;
 mod setting;
-mod words;
 
-use words::after;
+use libc::STDOUT_FILENO;
+use words::decimal;
+use words::find;
 use words::part;
-use words::print;
-use words::print_number;
+use words::word;
+
+fn print(text: &[u8]) {
+    io::write_all(STDOUT_FILENO, text);
+}
+
+fn print_number(n: u64) {
+    io::print_decimal(STDOUT_FILENO, n);
+}
 
 // The last channel, where there are n sessions.
 fn last_channel(n: u64) -> u8 {
@@ -58,18 +66,18 @@ fn run_calls(letter: u8, last: u8, rounds: u64, out: &mut [u8]) -> u64 {
 }
 
 // The first letter of the operation. Those of `transfer` and `tick` are told apart by the second.
-fn letter(line: &[u8]) -> u8 {
-    if line.len() < 2 {
+fn letter(name: &[u8]) -> u8 {
+    if name.len() < 2 {
         return 0;
     }
-    if line[1] == b'i' {
+    if name[1] == b'i' {
         return 0;
     }
-    line[0]
+    name[0]
 }
 
 fn run(line: &[u8], last: u8, rounds: u64, out: &mut [u8]) -> u64 {
-    let letter = letter(part(line, after(line, 0, b' '), line.len()));
+    let letter = letter(word(line, 1));
     if line.len() == 0 {
         return 0;
     }
@@ -80,15 +88,8 @@ fn run(line: &[u8], last: u8, rounds: u64, out: &mut [u8]) -> u64 {
 }
 
 fn run_line(line: &[u8], out: &mut [u8]) {
-    let sessions = after(line, after(line, 0, b' '), b' ');
-    let rounds = after(line, sessions, b' ');
-    let last = last_channel(words::number(part(line, sessions, words::find(line, sessions, b' '))));
-    let sum = run(
-        line,
-        last,
-        words::number(part(line, rounds, line.len())),
-        out,
-    );
+    let last = last_channel(decimal(word(line, 2)));
+    let sum = run(line, last, decimal(word(line, 3)), out);
     print(line);
     print(b": ");
     print_number(sum);
@@ -98,7 +99,7 @@ fn run_line(line: &[u8], out: &mut [u8]) {
 fn run_lines(text: &[u8], out: &mut [u8]) {
     let mut at: usize = 0;
     while at < text.len() {
-        let end = words::find(text, at, b'\n');
+        let end = find(text, at, b'\n');
         run_line(part(text, at, end), out);
         if text.len() <= end {
             return;

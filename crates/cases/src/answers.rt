@@ -1,9 +1,5 @@
 // Answers as words: a number stands for itself, and any other word for its letters, the first eight of them, after a bit that no number has.
-use crate::words::is_number;
-use crate::words::number;
-use crate::words::part;
-use crate::words::skip;
-use crate::words::word;
+use crate::spelling::is_number;
 use frame_decoder::Frame;
 use frame_decoder::Frames;
 use libc::STDOUT_FILENO;
@@ -15,6 +11,10 @@ use performatives::RemoteChannel;
 use protocol_header::HeaderRead;
 use protocol_header::ProtocolHeader;
 use values::Value;
+use words::decimal;
+use words::part;
+use words::skip;
+use words::word;
 
 // An answer's words in their order, `NO` passed over.
 pub(crate) type Answer = [u64; 10];
@@ -357,7 +357,7 @@ pub(crate) fn written(w: Written, out: &[u8], wanted: &[u8], bytes: &[u8]) -> An
 // What a word stands for.
 fn meant(w: &[u8]) -> u64 {
     if is_number(w) {
-        return number(w);
+        return decimal(w);
     }
     std::num::wrapping_add_u64(LETTERS, octets::number(w))
 }

@@ -22,7 +22,7 @@
 // answer is `touched`. A line that is no case is answered `badline`.
 mod answers;
 mod runs;
-mod words;
+mod spelling;
 
 use libc::STDOUT_FILENO;
 use words::find;
@@ -101,7 +101,7 @@ fn run_line(written: &[u8], number: u64, line: &mut [u8]) -> Outcome {
     if written[0] == b'#' {
         return Outcome::NoCase;
     }
-    let n = words::spelled(written, line);
+    let n = spelling::spelled(written, line);
     judge(part(line, 0, n), number)
 }
 

@@ -1,17 +1,17 @@
 // Runs a case: the function that its letter names, on its numbers and its bytes.
 use crate::answers;
 use crate::answers::Answer;
-use crate::words::bytes;
-use crate::words::is_bytes;
-use crate::words::is_number;
-use crate::words::number;
-use crate::words::number8;
-use crate::words::number16;
-use crate::words::number32;
-use crate::words::part;
-use crate::words::word;
+use crate::spelling::is_bytes;
+use crate::spelling::is_number;
+use crate::spelling::number8;
+use crate::spelling::number16;
+use crate::spelling::number32;
 use frame_encoder::IdleTimeOut;
 use octets::Written;
+use words::decimal;
+use words::hex;
+use words::part;
+use words::word;
 
 // How many numbers a case has after its letter; more than any has where there is no such letter.
 fn numbers(letter: u8) -> u8 {
@@ -72,7 +72,7 @@ fn read(letter: u8, line: &[u8], s: &[u8]) -> Answer {
 }
 
 fn idle(line: &[u8]) -> IdleTimeOut {
-    if number(word(line, 5)) == 0 {
+    if decimal(word(line, 5)) == 0 {
         return IdleTimeOut::Never;
     }
     IdleTimeOut::Millis(number32(word(line, 6)))
@@ -93,8 +93,8 @@ fn write_open(line: &[u8], container_id: &[u8], limit: u32, out: &mut [u8]) -> W
 
 fn write_close_with_error(line: &[u8], condition: &[u8], limit: u32, out: &mut [u8]) -> Written {
     let mut description = io::buffer();
-    let n = bytes(word(line, 5), &mut description);
-    let described = number(word(line, 3)) != 0;
+    let n = hex(word(line, 5), &mut description);
+    let described = decimal(word(line, 3)) != 0;
     frame_encoder::write_close_with_error(
         condition,
         described,
@@ -120,14 +120,14 @@ fn write_filled(letter: u8, line: &[u8], s: &[u8], wanted: &[u8], out: &mut [u8]
     answers::fill(out);
     let w = write(letter, line, s, out);
     let mut expected = io::large_buffer();
-    let n = bytes(word(wanted, 1), &mut expected);
+    let n = hex(word(wanted, 1), &mut expected);
     answers::written(w, out, wanted, part(&expected, 0, n))
 }
 
 // The first number is the room that is lent.
 fn write_in_room(letter: u8, line: &[u8], s: &[u8], wanted: &[u8]) -> Answer {
     let mut out = io::large_buffer();
-    let room = number(word(line, 1)) as usize;
+    let room = decimal(word(line, 1)) as usize;
     if out.len() < room {
         return answers::bad_line();
     }
@@ -152,6 +152,6 @@ pub(crate) fn answer(line: &[u8], wanted: &[u8]) -> Answer {
         return answers::bad_line();
     }
     let mut s = io::large_buffer();
-    let n = bytes(word(line, (before as usize) + 1), &mut s);
+    let n = hex(word(line, (before as usize) + 1), &mut s);
     run(letter, line, part(&s, 0, n), wanted)
 }

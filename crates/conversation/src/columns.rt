@@ -1,23 +1,13 @@
 // Text and numbers in columns, on standard output.
 use libc::STDOUT_FILENO;
+use words::part;
 
 pub(crate) fn print(text: &[u8]) {
     io::write_all(STDOUT_FILENO, text);
 }
 
-pub(crate) fn decimal(n: u64) {
+pub(crate) fn print_number(n: u64) {
     io::print_decimal(STDOUT_FILENO, n);
-}
-
-// The part of s from one place to another; nothing where s has no such part.
-pub(crate) fn part(s: &[u8], from: usize, end: usize) -> &[u8] {
-    if end < from {
-        return &s[..0];
-    }
-    if s.len() < end {
-        return &s[..0];
-    }
-    &s[from..end]
 }
 
 // How many digits a number has, up to six.
@@ -50,11 +40,11 @@ pub(crate) fn number(n: u64, width: usize) {
     if d < width {
         blanks(width - d);
     }
-    decimal(n);
+    print_number(n);
 }
 
 // A word, left-aligned.
-pub(crate) fn word(text: &[u8], width: usize) {
+pub(crate) fn column(text: &[u8], width: usize) {
     print(text);
     if text.len() < width {
         blanks(width - text.len());

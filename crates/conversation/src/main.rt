@@ -56,5 +56,5 @@ fn main() {
         return;
     }
     print(b"  offset  what    length  channel  performative  payload  says\n");
-    walk(columns::part(&buffer, 0, n));
+    walk(words::part(&buffer, 0, n));
 }

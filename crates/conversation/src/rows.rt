@@ -1,16 +1,16 @@
 // The line of a header, and the line of a frame. Each answers how many bytes it took, or 0 where the program stops.
-use crate::columns::decimal;
+use crate::columns::column;
 use crate::columns::number;
-use crate::columns::part;
 use crate::columns::print;
+use crate::columns::print_number;
 use crate::columns::text;
-use crate::columns::word;
 use frame_decoder::Frame;
 use performatives::Condition;
 use performatives::Performative;
 use performatives::RemoteChannel;
 use protocol_header::HeaderRead;
 use protocol_header::ProtocolHeader;
+use words::part;
 
 const LIMIT: u32 = 16384;
 
@@ -18,20 +18,20 @@ const HIGHEST: u16 = 255;
 
 fn refused(k: u64) {
     print(b"refused ");
-    decimal(k);
+    print_number(k);
     print(b"\n");
 }
 
 fn other(h: ProtocolHeader) {
     let id = h.id;
     print(b"other protocol: id ");
-    decimal(protocol_header::id_number(id) as u64);
+    print_number(protocol_header::id_number(id) as u64);
     print(b", version ");
-    decimal(h.major as u64);
+    print_number(h.major as u64);
     print(b".");
-    decimal(h.minor as u64);
+    print_number(h.minor as u64);
     print(b".");
-    decimal(h.revision as u64);
+    print_number(h.revision as u64);
     print(b"\n");
 }
 
@@ -67,15 +67,15 @@ fn name(p: Performative) {
             max_frame_size: _,
             channel_max: _,
             idle_time_out: _,
-        } => word(b"  open", 14),
-        Performative::Begin(_) => word(b"  begin", 14),
-        Performative::Attach => word(b"  attach", 14),
-        Performative::Flow => word(b"  flow", 14),
-        Performative::Transfer => word(b"  transfer", 14),
-        Performative::Disposition => word(b"  disposition", 14),
-        Performative::Detach(_) => word(b"  detach", 14),
-        Performative::End(_) => word(b"  end", 14),
-        Performative::Close(_) => word(b"  close", 14),
+        } => column(b"  open", 14),
+        Performative::Begin(_) => column(b"  begin", 14),
+        Performative::Attach => column(b"  attach", 14),
+        Performative::Flow => column(b"  flow", 14),
+        Performative::Transfer => column(b"  transfer", 14),
+        Performative::Disposition => column(b"  disposition", 14),
+        Performative::Detach(_) => column(b"  detach", 14),
+        Performative::End(_) => column(b"  end", 14),
+        Performative::Close(_) => column(b"  close", 14),
     }
 }
 
@@ -96,19 +96,19 @@ fn remote(r: RemoteChannel) {
         RemoteChannel::Absent => {}
         RemoteChannel::Is(n) => {
             print(b"remote-channel ");
-            decimal(n as u64);
+            print_number(n as u64);
         }
     }
 }
 
 fn open(max_frame_size: u32, channel_max: u16, idle_time_out: u32) {
     print(b"max-frame-size ");
-    decimal(max_frame_size as u64);
+    print_number(max_frame_size as u64);
     print(b", channel-max ");
-    decimal(channel_max as u64);
+    print_number(channel_max as u64);
     if 0 < idle_time_out {
         print(b", idle-time-out ");
-        decimal(idle_time_out as u64);
+        print_number(idle_time_out as u64);
     }
 }
 

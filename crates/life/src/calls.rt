@@ -1,28 +1,35 @@
 // The calls of a connection, each with its line. Each gives back the connection afterwards.
 use crate::rows;
-use crate::words;
-use crate::words::part;
-use crate::words::word;
 use channels::Held;
 use connection::Connection;
 use connection::NewConnection;
 use connection::Sent;
 use frame_encoder::IdleTimeOut;
+use words::part;
+use words::word;
 ghost use Prim.Native.Nat.{_≤_};
+
+// The byte at a place; a blank where there is none.
+pub(crate) fn at(s: &[u8], i: usize) -> u8 {
+    if i < s.len() {
+        return s[i];
+    }
+    b' '
+}
 
 // The call that a line names, by a letter: those that send have a great one.
 fn letter(name: &[u8]) -> u8 {
-    match words::at(name, 0) {
-        b'd' => words::at(name, 1),
-        b'l' => words::at(name, 2),
-        b'r' => words::at(name, 8),
+    match at(name, 0) {
+        b'd' => at(name, 1),
+        b'l' => at(name, 2),
+        b'r' => at(name, 8),
         b's' => sending_letter(name),
         b => b,
     }
 }
 
 fn sending_letter(name: &[u8]) -> u8 {
-    match words::at(name, 5) {
+    match at(name, 5) {
         b'h' => b'H',
         b'o' => b'O',
         b's' => b'S',
@@ -227,13 +234,13 @@ pub(crate) fn call(
     other: &[u8],
 ) -> Connection {
     let name = word(line, 1);
-    let n = (words::number(word(line, 2)) % 65536) as u16;
+    let n = (words::decimal(word(line, 2)) % 65536) as u16;
     let text = word(line, 3);
     rows::call(word(line, 0), name);
-    if words::at(text, 0) == b'<' {
+    if at(text, 0) == b'<' {
         return on(connection, letter(name), n, other, out);
     }
     let mut data = [0u8; 8192];
-    let len = words::bytes(text, &mut data);
+    let len = words::hex(text, &mut data);
     on(connection, letter(name), n, part(&data, 0, len), out)
 }

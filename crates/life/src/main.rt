@@ -6,7 +6,6 @@
 // Every call has a line of output: whose it is, the call, the state afterwards, what it was lent, and the answer.
 mod calls;
 mod rows;
-mod words;
 
 use connection::Connection;
 use frame_encoder::IdleTimeOut;
@@ -30,7 +29,7 @@ fn play(script: &[u8], pad_out: &mut [u8], hub_out: &mut [u8]) {
         }
         let line = part(script, at, end);
         at = end + 1;
-        match words::at(line, 0) {
+        match calls::at(line, 0) {
             b'p' => pad = calls::call(pad, line, pad_out, hub_out),
             b'h' => hub = calls::call(hub, line, hub_out, pad_out),
             _ => title(line),

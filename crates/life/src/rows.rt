@@ -1,6 +1,4 @@
 // The lines: whose call it is, the call, the state afterwards, what the call was lent, and the answer.
-use crate::words::part;
-use crate::words::word;
 use channels::AgreedMax;
 use channels::Held;
 use connection::AllocateAnswer;
@@ -11,6 +9,8 @@ use endpoint::FrameAnswer;
 use libc::STDOUT_FILENO;
 use local_open::Checked;
 use octets::Written;
+use words::part;
+use words::word;
 
 pub(crate) fn print(text: &[u8]) {
     io::write_all(STDOUT_FILENO, text);
@@ -39,7 +39,7 @@ pub(crate) fn call(side: &[u8], name: &[u8]) {
 }
 
 pub(crate) fn state(state: ConnectionState) {
-    let place: u8 = match state {
+    let place: usize = match state {
         ConnectionState::Start => 0,
         ConnectionState::HeaderReceived => 1,
         ConnectionState::HeaderSent => 2,
@@ -87,7 +87,7 @@ fn performative(code: u8) {
     }
     print(word(
         b"open begin attach flow transfer disposition detach end close",
-        code - 16,
+        (code - 16) as usize,
     ));
 }
 

@@ -9,7 +9,7 @@ use lib.ListN.{length, take, drop, length-take, length-drop}
 use lib.Dec.{leb, eqb}
 use borrow.Author.Tests.{leb-true}
 use Rattle.octets.specs.Verdict.{Verdict, refuse, accept, require, andThen}
-use Rattle.values.specs.Value.{Reader, Shape, list, map, array, Kind, fixed, boolean, variable, compound, kindIn, kindOf, codes, plus, followedBy, times, bytes, numberIn, booleanEnd, variableEnd, pairedIn, opening, items, compoundEnd, body, afterCode, level, run}
+use Rattle.values.specs.Value.{Reader, Shape, list, map, array, Kind, fixed, boolean, variable, compound, kindIn, kindOf, codes, plus, followedBy, times, bytes, numberIn, booleanEnd, variableEnd, pairedIn, opening, items, compoundEnd, body, afterCode, level, nowhere, run}
 
 -- ---- what is accepted, and that all refusals are 6
 
@@ -120,11 +120,16 @@ module _ (r : ℕ → Reader) (h : (n : ℕ) (s : List ℕ) → Within (length s
   within-after count true c s = within-followedBy (r 1) (r count) s (h 1 s) (h count)
   within-after count false c s = holds-then (λ (k : Kind). Unit {0}) (λ (n : ℕ). n ≤ length s) (kindOf c) _ (kind-holds c) (λ k _. within-times (body r k) (within-body k) count s)
 
+  within-level : (count : ℕ) (s : List ℕ) → Within (length s) (level r count s)
+  unfolding level
+  within-level count [] = refl
+  within-level count (c ∷ s) = within-plus 1 (afterCode r count (eqb c 0) c s) (length s) (suc (length s)) (within-after count (eqb c 0) c s) (omega arith)
+
 pub within-run : (d count : ℕ) (s : List ℕ) → Within (length s) (run d count s)
-unfolding run level
-within-run zero count s = refl
-within-run (suc d) count [] = refl
-within-run (suc d) count (c ∷ s) = within-plus 1 (afterCode (run d) count (eqb c 0) c s) (length s) (suc (length s)) (within-after (run d) (within-run d) count (eqb c 0) c s) (omega arith)
+unfolding run
+within-run zero zero s = within-level nowhere (λ count t. refl) 0 s
+within-run zero (suc k) s = refl
+within-run (suc d) count s = within-level (run d) (within-run d) count s
 
 pub within-bodies : (d : ℕ) (k : Kind) (s : List ℕ) → Within (length s) (body (run d) k s)
 within-bodies d k s = within-body (run d) (within-run d) k s

@@ -10,10 +10,10 @@ use native.Mathlib.Omega.{arith}
 use lib.ListN.{length, take, drop, getD, length-drop}
 use lib.Seq.{take-all, drop-drop}
 use lib.Dec.{leb, eqb}
-use borrow.Author.Tests.{le-leb, lt-leb, eq-eqb, ne-eqb, leb-true, leb-false}
+use borrow.Author.Tests.{le-leb, lt-leb, eq-eqb, ne-eqb, eqb-true, leb-true, leb-false}
 use Rattle.octets.specs.Verdict.{Verdict, refuse, accept, andThen}
 use Rattle.octets.proofs.Laws.{require-on, require-off}
-use Rattle.values.specs.Value.{Reader, plus, followedBy, times, bytes, booleanEnd, afterCode, level, run, kindOf, body}
+use Rattle.values.specs.Value.{Reader, Kind, plus, followedBy, times, bytes, booleanEnd, afterCode, level, nowhere, run, codes, kindIn, kindOf, body}
 
 -- a part to the end
 pub tail : (s : List ℕ) (a : ℕ) → take (length s - a) (drop a s) ≡ drop a s
@@ -106,13 +106,11 @@ times-bytes w (suc k) s = simp (times-bytes w k) (rw (suc-mul k w) (bytes-past w
 
 -- ---- a constructor with its bodies
 
-pub run-deep : (d count : ℕ) (s : List ℕ) → d ≡ 0 → refuse 6 ≡ run d count s
-unfolding run
-run-deep d count s e = rw e
-
 pub run-none : (d count : ℕ) (s : List ℕ) → length s ≡ 0 → refuse 6 ≡ run d count s
 unfolding run level
-run-none zero count s e = refl
+run-none zero zero [] e = refl
+run-none zero zero (c ∷ s) e = absurd (omega arith)
+run-none zero (suc k) s e = refl
 run-none (suc d) count [] e = refl
 run-none (suc d) count (c ∷ s) e = absurd (omega arith)
 
@@ -130,3 +128,24 @@ module _ (d count : ℕ) (s : List ℕ) (hd : d ≡ 0 → ⊥) (hs : length s �
   pub run-plain : (getD s 0 0 ≡ 0 → ⊥) → run d count s ≡ plus 1 (andThen (kindOf (getD s 0 0)) (λ k. times count (body (run (d - 1)) k) (drop 1 s)))
   unfolding afterCode
   run-plain e = run-step d count s hd hs ∙ rw (ne-eqb _ _ e)
+
+-- ---- where no level is left
+
+pub run-bodies : (count : ℕ) (s : List ℕ) → 0 < count → refuse 6 ≡ run 0 count s
+unfolding run
+run-bodies zero s h = absurd (omega arith)
+run-bodies (suc k) s h = refl
+
+pub run-alone : (count : ℕ) (s : List ℕ) → count ≤ 0 → (length s ≡ 0 → ⊥) → run 0 count s ≡ andThen (kindOf (getD s 0 0)) (λ k. accept 1)
+unfolding run level afterCode followedBy times plus andThen kindOf kindIn codes
+run-alone (suc k) s hc hs = absurd (omega arith)
+run-alone zero [] hc hs = absurd (hs refl)
+run-alone zero (c ∷ s) hc hs = go (eqb c 0) refl
+  where
+    one : (v : Verdict Kind) → plus 1 (andThen v (λ k. times 0 (body nowhere k) s)) ≡ andThen v (λ k. accept 1)
+    one (accept k) = refl
+    one (refuse j) = refl
+
+    go : (b : Bool) → eqb c 0 ≡ b → plus 1 (afterCode nowhere 0 b c s) ≡ andThen (kindOf c) (λ k. accept 1)
+    go true q = rw (eqb-true c 0 q)
+    go false q = one (kindOf c)

@@ -66,8 +66,21 @@ examples =
     ∷ (inArrays 16 (0x40 ∷ []), refuse 6)
     ∷ (described 15 (0x40 ∷ []), accept 31)
     ∷ (described 16 (0x40 ∷ []), refuse 6)
-    -- an array of no elements at level 16: its constructor stands at level 17
-    ∷ (inLists 15 (0xe0 ∷ 2 ∷ 0 ∷ 0x60 ∷ []), refuse 6)
+    -- arrays at level 16: of no elements, where no value stands at level 17; with an unknown code; of one element; of no arrays
+    ∷ (inLists 15 (0xe0 ∷ 2 ∷ 0 ∷ 0x40 ∷ []), accept 49)
+    ∷ (inLists 15 (0xe0 ∷ 2 ∷ 0 ∷ 0x57 ∷ []), refuse 6)
+    ∷ (inLists 15 (0xe0 ∷ 2 ∷ 1 ∷ 0x40 ∷ []), refuse 6)
+    ∷ (inLists 15 (0xe0 ∷ 2 ∷ 0 ∷ 0xe0 ∷ []), accept 49)
+    -- an array of no elements in an array at level 15, and at level 16
+    ∷ (inLists 14 (0xe0 ∷ 5 ∷ 1 ∷ 0xe0 ∷ 2 ∷ 0 ∷ 0x40 ∷ []), accept 49)
+    ∷ (inLists 15 (0xe0 ∷ 5 ∷ 1 ∷ 0xe0 ∷ 2 ∷ 0 ∷ 0x40 ∷ []), refuse 6)
+    -- arrays of no described elements at levels 14, 15 and 16: what describes stands at 16, 17 and 18
+    ∷ (inLists 13 (0xe0 ∷ 5 ∷ 0 ∷ 0 ∷ 0x53 ∷ 1 ∷ 0x40 ∷ []), accept 46)
+    ∷ (inLists 14 (0xe0 ∷ 5 ∷ 0 ∷ 0 ∷ 0x53 ∷ 1 ∷ 0x40 ∷ []), refuse 6)
+    ∷ (inLists 15 (0xe0 ∷ 5 ∷ 0 ∷ 0 ∷ 0x53 ∷ 1 ∷ 0x40 ∷ []), refuse 6)
+    -- arrays of no elements that are described twice, at levels 13 and 14: the second value that describes stands at 16 and 17
+    ∷ (inLists 12 (0xe0 ∷ 8 ∷ 0 ∷ 0 ∷ 0x53 ∷ 1 ∷ 0 ∷ 0x53 ∷ 2 ∷ 0x40 ∷ []), accept 46)
+    ∷ (inLists 13 (0xe0 ∷ 8 ∷ 0 ∷ 0 ∷ 0x53 ∷ 1 ∷ 0 ∷ 0x53 ∷ 2 ∷ 0x40 ∷ []), refuse 6)
     ∷ []
 
 as-expected : map (λ p. valueEnd 16 (p .0)) examples ≡ map (λ p. p .1) examples

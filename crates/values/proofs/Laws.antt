@@ -15,7 +15,7 @@ use borrow.Author.Tests.{eqb-true, ne-eqb}
 use Rattle.octets.specs.Verdict.{Verdict, refuse, accept, andThen}
 use Rattle.octets.specs.Octets.{bigEndian}
 use Rattle.octets.proofs.Laws.{require-was, then-accept}
-use Rattle.values.specs.Value.{Reader, Shape, list, map, array, Kind, fixed, boolean, variable, compound, codes, kindIn, kindOf, plus, followedBy, times, bytes, numberIn, booleanEnd, variableEnd, items, compoundEnd, body, afterCode, level, run, valueEnd}
+use Rattle.values.specs.Value.{Reader, Shape, list, map, array, Kind, fixed, boolean, variable, compound, codes, kindIn, kindOf, plus, followedBy, times, bytes, numberIn, booleanEnd, variableEnd, items, compoundEnd, body, afterCode, level, nowhere, run, valueEnd}
 use Rattle.values.proofs.Cases.{bytes-yes}
 use Rattle.values.proofs.Apart.{never, accepted, then-was, plus-was, plus-is, both-was, both-is, bytes-was, number-was, number-is, compound-was, compound-is}
 use Rattle.values.proofs.Bounds.{Within, holds-accept, holds-refuse, within-body, within-run}
@@ -123,7 +123,8 @@ module _ (r : ℕ → Reader) (bound : (n : ℕ) (s : List ℕ) → Within (leng
 
 pub run-local : (d count : ℕ) (s : List ℕ) (n : ℕ) → run d count s ≡ accept n → (t : List ℕ) → run d count (take n s ++ t) ≡ accept n
 unfolding run
-run-local zero count s n e t = absurd (never 6 n e)
+run-local zero zero s n e t = local-level nowhere (λ count u. refl) (λ count u m q v. absurd (never 6 m q)) 0 s n e t
+run-local zero (suc k) s n e t = absurd (never 6 n e)
 run-local (suc d) count s n e t = local-level (run d) (within-run d) (run-local d) count s n e t
 
 pub value-local : (d : ℕ) (s : List ℕ) (n : ℕ) → valueEnd d s ≡ accept n → (t : List ℕ) → valueEnd d (take n s ++ t) ≡ accept n
@@ -135,11 +136,20 @@ value-local d s n e t = run-local d 1 s n e t
 pub run-within : (d count : ℕ) (s : List ℕ) (n : ℕ) → run d count s ≡ accept n → n ≤ length s
 run-within d count s n e = holds-accept (λ (m : ℕ). m ≤ length s) (run d count s) n (within-run d count s) e
 
+-- what is accepted stands at a level
+run-level : (d count : ℕ) (s : List ℕ) (n : ℕ) → run d count s ≡ accept n → (r : ℕ → Reader) × (level r count s ≡ accept n)
+unfolding run
+run-level zero zero s n e = (nowhere, e)
+run-level zero (suc k) s n e = absurd (never 6 n e)
+run-level (suc d) count s n e = (run d, e)
+
+level-some : (r : ℕ → Reader) (count : ℕ) (s : List ℕ) (n : ℕ) → level r count s ≡ accept n → 1 ≤ n
+unfolding level
+level-some r count [] n e = absurd (never 6 n e)
+level-some r count (c ∷ s) n e = let p = plus-was 1 (afterCode r count (eqb c 0) c s) n e in omega (arith, p .2)
+
 pub run-some : (d count : ℕ) (s : List ℕ) (n : ℕ) → run d count s ≡ accept n → 1 ≤ n
-unfolding run level
-run-some zero count s n e = absurd (never 6 n e)
-run-some (suc d) count [] n e = absurd (never 6 n e)
-run-some (suc d) count (c ∷ s) n e = let p = plus-was 1 (afterCode (run d) count (eqb c 0) c s) n e in omega (arith, p .2)
+run-some d count s n e = let l = run-level d count s n e in level-some (l .0) count s n (l .1)
 
 pub run-six : (d count : ℕ) (s : List ℕ) (k : ℕ) → run d count s ≡ refuse k → k ≡ 6
 run-six d count s k e = holds-refuse (λ (m : ℕ). m ≤ length s) (run d count s) k (within-run d count s) e
@@ -203,7 +213,8 @@ module _ (r r′ : ℕ → Reader) (h : (n : ℕ) → More (r n) (r′ n)) where
 
 pub run-deeper : (d count : ℕ) (s : List ℕ) (n : ℕ) → run d count s ≡ accept n → run (suc d) count s ≡ accept n
 unfolding run
-run-deeper zero count s n e = absurd (never 6 n e)
+run-deeper zero zero s n e = more-level nowhere (run 0) (λ count t m q. absurd (never 6 m q)) 0 s n e
+run-deeper zero (suc k) s n e = absurd (never 6 n e)
 run-deeper (suc d) count s n e = more-level (run d) (run (suc d)) (run-deeper d) count s n e
 
 pub value-deeper : (d : ℕ) (s : List ℕ) (n : ℕ) → valueEnd d s ≡ accept n → valueEnd (suc d) s ≡ accept n
@@ -219,11 +230,11 @@ after-code r count c s n false q e = let a = then-was (kindOf c) _ n e in inr (a
 
 -- it is 00 or a code of section 1.6
 pub run-code : (d count c : ℕ) (s : List ℕ) (n : ℕ) → run d count (c ∷ s) ≡ accept n → (c ≡ 0) ⊎ ((k : Kind) × (kindOf c ≡ accept k))
-unfolding run level
-run-code zero count c s n e = absurd (never 6 n e)
-run-code (suc d) count c s n e =
-    let p = plus-was 1 (afterCode (run d) count (eqb c 0) c s) n e in
-    after-code (run d) count c s (p .0) (eqb c 0) refl (p .1)
+unfolding level
+run-code d count c s n e =
+    let l = run-level d count (c ∷ s) n e in
+    let p = plus-was 1 (afterCode (l .0) count (eqb c 0) c s) n (l .1) in
+    after-code (l .0) count c s (p .0) (eqb c 0) refl (p .1)
 
 pub value-code : (d c : ℕ) (s : List ℕ) (n : ℕ) → valueEnd d (c ∷ s) ≡ accept n → (c ≡ 0) ⊎ ((k : Kind) × (kindOf c ≡ accept k))
 unfolding valueEnd

@@ -33,7 +33,7 @@ use Rattle.values.specs.declared.Opening.the-variants.{Counted, Malforme
 use Rattle.values.specs.Value.{Reader, Kind, plus, times, kindOf, bytes, numberIn, booleanEnd, variableEnd, pairedIn, opening, items, compoundEnd, body, run}
 use Rattle.values.specs.Answers.{ended, widthOf, shapeSaid, kindSaid, codeSaid, numberSaid, openingSaid}
 use Rattle.values.proofs.Shape.{the-type}
-use Rattle.values.proofs.Cases.{tail, left, turn-more, turn-stop, turn-last, times-bytes, run-described, run-plain}
+use Rattle.values.proofs.Cases.{tail, left, turn-more, turn-stop, turn-last, times-bytes, run-alone, run-described, run-plain}
 use Rattle.values.proofs.Bounds.{Within, holds-accept, Opens, opening-holds, within-times, within-items, within-run, within-bodies}
 
 -- ---- numbers
@@ -126,7 +126,21 @@ in-rest f h s a n v l e q =
     let k : length (rest s a) ≡ length s - a = ap length (tail s a) ∙ length-drop a s in
     omega arith
 
+-- ---- where no level is left
+
+module _ (count : ℕ) (s : List ℕ) (hc : count ≤ 0) (hs : length s ≡ 0 → ⊥) (k : Code) (o : codeSaid k ≡ kindOf (getD s 0 0)) where
+  pub alone-off : k ≡ Unknown → refuse 6 ≡ run 0 count s
+  unfolding andThen
+  alone-off u = sym (run-alone count s hc hs ∙ rw (← o, u))
+
+  pub alone-on : (kind : K.Kind) → k ≡ Known kind → accept 1 ≡ run 0 count s
+  unfolding andThen
+  alone-on kind u = sym (run-alone count s hc hs ∙ rw (← o, u))
+
 -- ---- constructor
+
+pub run-last : (d count : ℕ) (s : List ℕ) (v : Value) → d ≡ 0 → ended v ≡ run 0 count s → ended v ≡ run d count s
+run-last d count s v z e = rw z e
 
 module _ (s : List ℕ) (d count : ℕ) (v : Value) (n : ℕ) (hs : length s ≡ 0 → ⊥) (e : ended v ≡ run d count (rest s 1)) (q : v ≡ End n) where
   pub next-in : 1 + n ≤ length s

@@ -122,7 +122,7 @@ opening shape w s =
     require 6 (pairedIn shape count) (λ _. accept (size, count)))))
 
 -- what stands in a compound; r is the rule for a run one level deeper. The items of a list, and the keys and values of a map, are values.
--- The elements of an array are a run, whose constructor stands at their level, also where there are none.
+-- The elements of an array are a run.
 unfoldable pub items : (ℕ → Reader) → Shape → ℕ → Reader
 items r list count s = times count (r 1) s
 items r map count s = times count (r 1) s
@@ -149,13 +149,20 @@ unfoldable pub afterCode : (ℕ → Reader) → ℕ → Bool → ℕ → Reader
 afterCode r count true c s = followedBy (r 1) (r count) s
 afterCode r count false c s = andThen (kindOf c) (λ k. times count (body r k) s)
 
+-- a run of count bodies; r is the rule for a run one level deeper
 unfoldable pub level : (ℕ → Reader) → ℕ → Reader
 level r count [] = refuse 6
 level r count (c ∷ s) = plus 1 (afterCode r count (eqb c 0) c s)
 
--- a run of count bodies that stands at the first of d levels
+-- where nothing may stand
+abbrev pub nowhere : ℕ → Reader
+nowhere count s = refuse 6
+
+-- a run of count bodies that stands at the first of d levels. Where no level is left no value may stand, neither a body nor, deeper yet, one that describes.
+-- The format code of an array of no elements is no value, and may
 unfoldable pub run : ℕ → ℕ → Reader
-run zero count s = refuse 6
+run zero zero s = level nowhere 0 s
+run zero (suc k) s = refuse 6
 run (suc d) count s = level (run d) count s
 
 -- a value that stands at the first of d levels; what stands inside a list, map, array or described value is one level deeper

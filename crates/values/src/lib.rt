@@ -433,13 +433,30 @@ fn variable(s: &[u8], wide: bool) -> Value
     bytes(s, width(wide) + (size as usize))
 }
 
+// A constructor where no level is left for a value: a format code with no bodies.
+fn code_alone(s: &[u8], count: u32) -> Value
+    ensures { λ r. ⌜ ended r ≡ run 0 count (now (s .entry)) ⌝ }
+{
+    if count > 0 {
+        return Value::Malformed;
+    }
+    if s.len() == 0 {
+        return Value::Malformed;
+    }
+    let c = s[0];
+    let Code::Known(_kind) = code_of(c) else {
+        return Value::Malformed;
+    };
+    Value::End(1)
+}
+
 // A constructor, and as many bodies of it as `count` says: a value is a constructor with one body. It stands at the first of `depth` levels; a value that
 // describes, and what is described or stands in a compound, at the next.
 fn constructor(s: &[u8], depth: u8, count: u32) -> Value
     ensures { λ r. ⌜ ended r ≡ run depth count (now (s .entry)) ⌝ }
 {
     if depth == 0 {
-        return Value::Malformed;
+        return code_alone(s, count);
     }
     if s.len() == 0 {
         return Value::Malformed;

@@ -356,16 +356,30 @@ fn level(reader: &mut SliceReader, at: usize) -> usize {
         0xf0 => (9, true),
         _ => return at,
     };
-    if array {
-        // Arrays of compounds are not made by these runs.
-        return at + 1;
-    }
     let mut items = SliceReader::new(&raw.0[start..]);
     let mut deepest = at;
+    if array {
+        let none = raw.0[start / 2 + 1..start].iter().all(|byte| *byte == 0);
+        return deepest.max(elements(&mut items, at + 1, none));
+    }
     while !items.rest().is_empty() {
         deepest = deepest.max(level(&mut items, at + 1));
     }
     deepest
+}
+
+/// The deepest level in an array's constructor and its elements, which are at level `at`; where there are none, only what describes them is a value.
+/// Arrays of compounds are not made by these runs.
+fn elements(reader: &mut SliceReader, at: usize, none: bool) -> usize {
+    if reader.rest()[0] == 0 {
+        let _ = reader.take(1);
+        return level(reader, at + 1).max(elements(reader, at + 1, none));
+    }
+    if none {
+        0
+    } else {
+        at
+    }
 }
 
 pub fn hex(bytes: &[u8]) -> String {
