@@ -28,13 +28,16 @@ def crates():
 
 
 def public_functions(crate):
-    """The paths of a library's `pub fn`s: `name`, or `Type::name` inside `impl Type`; after `file::` where it is not lib.rt."""
+    """The paths of a library's `pub fn`s: `name`, or `Type::name` inside `impl Type`; after `file::` where it is not lib.rt.
+    A method's path is that of its type, in whichever file it stands. A `pub(crate) fn` is not public."""
+    files = {file: "" if file.stem == "lib" else file.stem + "::" for file in (crate / "src").glob("*.rt")}
+    types = {name: at for file, at in files.items() for name in re.findall(r"^(?:pub.* )?(?:struct|enum) (\w+)", text(file), re.M)}
     found = set()
-    for file in (crate / "src").glob("*.rt"):
-        module = of = "" if file.stem == "lib" else file.stem + "::"
+    for file, module in files.items():
+        of = module
         for line in text(file).splitlines():
             if head := re.match(r"impl (\w+)", line):
-                of = module + head[1] + "::"
+                of = types[head[1]] + head[1] + "::"
             elif line == "}":
                 of = module
             elif function := re.match(r"\s*pub (?:extern \"C\" )?fn (\w+)", line):

@@ -28,7 +28,7 @@ use Rattle.connection.specs.Promises as C
 use Rattle.connection.specs.declared.Connection.{Connection}
 use Rattle.engine_model.specs.Engine as M
 use Rattle.engine_model.specs.Engine.{sendFault, framesIn, sending}
-use Rattle.engine.specs.declared.InnerError.{InnerError}
+use Rattle.engine.specs.declared.error.InnerError.{InnerError}
 use Rattle.engine.specs.declared.Landed.{Landed}
 use Rattle.engine.specs.declared.Trailed.{Trailed}
 use Rattle.engine.specs.declared.Phase.{Phase}

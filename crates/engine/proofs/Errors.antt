@@ -19,9 +19,9 @@ use Rattle.connection.specs.declared.Connection.{Connection}
 use Rattle.engine_model.specs.Engine as M
 use Rattle.engine_model.specs.Engine.{illegal}
 use Rattle.engine_model.specs.Texts.{illegalStateCondition, notFoundCondition, notImplementedCondition, noSession, noOutgoingChannel, noRemoteSession}
-use Rattle.engine.specs.declared.InnerError.{InnerError}
-use Rattle.engine.specs.declared.InnerError.the-variants.{TransportError, IllegalState, NotFound, SessionNotFound, OutgoingChannelNotFound, NotImplemented, RemoteSession}
-use Rattle.engine.proofs.InnerError.{the-type}
+use Rattle.engine.specs.declared.error.InnerError.{InnerError}
+use Rattle.engine.specs.declared.error.InnerError.the-variants.{TransportError, IllegalState, NotFound, SessionNotFound, OutgoingChannelNotFound, NotImplemented, RemoteSession}
+use Rattle.engine.proofs.error.InnerError.{the-type}
 use Rattle.engine.specs.Answers.{errorSays}
 use Rattle.engine.specs.Promises.{Tells}
 

@@ -27,8 +27,8 @@ use Rattle.connection.specs.declared.Connection.{Connection}
 use Rattle.engine_model.specs.Engine as M
 use Rattle.engine_model.specs.Engine.{Event, Reply, Result, Landing, landing, results, notDelivered, endOfInput, inputEnds, fail, cut, cutShort, lent, isRunning, isStopped, running, endedIn, replied, landed}
 use Rattle.engine.specs.declared.ConnectionEngine.{ConnectionEngine}
-use Rattle.engine.specs.declared.InnerError.{InnerError}
-use Rattle.engine.specs.declared.InnerError.the-variants.{IllegalState, SessionNotFound, NotImplemented}
+use Rattle.engine.specs.declared.error.InnerError.{InnerError}
+use Rattle.engine.specs.declared.error.InnerError.the-variants.{IllegalState, SessionNotFound, NotImplemented}
 use Rattle.engine.specs.declared.Landed.{Landed}
 use Rattle.engine.specs.declared.OnError.{OnError}
 use Rattle.engine.specs.declared.Outcome.{Outcome}
@@ -42,7 +42,7 @@ use Rattle.engine.specs.Promises.{Does, Lands, Keeps, Fails, Ends, Handl
 use Rattle.engine.proofs.Does.{comesTo, refuses}
 use Rattle.engine.proofs.Output.{laid-is}
 use Rattle.engine.proofs.Well.{goes-says, goes-taken, ending, running-yet}
-use Rattle.engine.proofs.Opening.{runs}
+use Rattle.engine.proofs.Openings.{runs}
 
 pub lands-does :
     (event : Event) (e : ConnectionEngine) (L : Landing) (consumed n : ℕ) (inner i : Option (Verdict Answer)) (out : List ℕ) (l : Landed) → (Sound e → comesTo e event ≡ results L consumed inner)

@@ -7,11 +7,11 @@ pub mod Phases
 pub mod Errors
 pub mod Output
 pub mod Failing
-pub mod Opening
+pub mod Openings
 pub mod Landing
 pub mod Refusals
 pub mod Outgoing
-pub mod Incoming
+pub mod Reading
 pub mod Draining
 pub mod Trailing
 pub mod Answering

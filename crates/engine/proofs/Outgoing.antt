@@ -29,7 +29,7 @@ use Rattle.connection.specs.declared.Connection.{Connection}
 use Rattle.engine_model.specs.Engine as M
 use Rattle.engine_model.specs.Engine.{Event, Result, Trail, trail, goes, landing, results, settled, fail, sendFault, outgoing, isRunning, lent, wroteBefore}
 use Rattle.engine.specs.declared.ConnectionEngine.{ConnectionEngine}
-use Rattle.engine.specs.declared.InnerError.{InnerError}
+use Rattle.engine.specs.declared.error.InnerError.{InnerError}
 use Rattle.engine.specs.declared.Landed.{Landed}
 use Rattle.engine.specs.declared.OnOutgoing.{OnOutgoing}
 use Rattle.engine.specs.declared.Running as R

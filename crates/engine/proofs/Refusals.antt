@@ -10,7 +10,7 @@ use borrow.Author.Tests.{eq-eqb, ne-eqb}
 use Rattle.octets.specs.Octets.{bigEndian}
 use Rattle.frame_decoder.specs.Frame.{sizeOf}
 use Rattle.engine_model.specs.Engine.{sendFault}
-use Rattle.engine.specs.declared.InnerError.the-variants.{TransportError, IllegalState, OutgoingChannelNotFound}
+use Rattle.engine.specs.declared.error.InnerError.the-variants.{TransportError, IllegalState, OutgoingChannelNotFound}
 use Rattle.engine.specs.Answers.{errorSays}
 
 pub leads-illegal : (k : ℕ) → k ≡ 20 → errorSays IllegalState ≡ sendFault k

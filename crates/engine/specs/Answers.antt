@@ -23,8 +23,8 @@ use Rattle.engine.specs.declared.Running as R
 use Rattle.engine.specs.declared.Running.the-variants.{Continue, Stop, Refused}
 use Rattle.engine.specs.declared.DeallocateAnswer.{DeallocateAnswer}
 use Rattle.engine.specs.declared.DeallocateAnswer.the-variants.{Freed, Refused as NotFreed}
-use Rattle.engine.specs.declared.InnerError.{InnerError}
-use Rattle.engine.specs.declared.InnerError.the-variants.{TransportError as TransportFailed, IllegalState as StateIllegal, NotFound as Unknown, SessionNotFound, OutgoingChannelNotFound, NotImplemented as Missing, RemoteSession}
+use Rattle.engine.specs.declared.error.InnerError.{InnerError}
+use Rattle.engine.specs.declared.error.InnerError.the-variants.{TransportError as TransportFailed, IllegalState as StateIllegal, NotFound as Unknown, SessionNotFound, OutgoingChannelNotFound, NotImplemented as Missing, RemoteSession}
 use Rattle.engine.specs.declared.ConnectionEngine.{ConnectionEngine}
 
 abbrev pub outcomeSays : Outcome → M.Outcome

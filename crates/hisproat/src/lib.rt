@@ -51,7 +51,7 @@ fn lacks_room(answer: usize, output: usize, waiting: usize) -> bool
     if answer < ANSWER_SIZE {
         return true;
     }
-    engine::lacks_room(output, waiting)
+    engine::room::lacks_room(output, waiting)
 }
 
 // A flag: 0 is no, anything else is yes.

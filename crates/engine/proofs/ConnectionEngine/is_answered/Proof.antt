@@ -1,7 +1,7 @@
 -- `is_answered`: by the state, and whether the frame is a Close.
 -- Assumes nothing.
 use borrow.Author.Needs.{needs}
-use Rattle.engine.proofs.Incoming.{answers-received, answers-not}
+use Rattle.engine.proofs.Reading.{answers-received, answers-not}
 use Rattle.engine.proofs.ConnectionEngine.is_answered.Statement.{statement}
 use Rattle.engine.proofs.ConnectionEngine.is_answered.Tie as tie
 

@@ -1,7 +1,7 @@
 -- `is_stopped`: a law for each return.
 -- Assumes nothing.
 use borrow.Author.Needs.{needs}
-use Rattle.engine.proofs.Incoming.{stops, stops-not}
+use Rattle.engine.proofs.Reading.{stops, stops-not}
 use Rattle.engine.proofs.ConnectionEngine.is_stopped.Statement.{statement}
 use Rattle.engine.proofs.ConnectionEngine.is_stopped.Tie as tie
 

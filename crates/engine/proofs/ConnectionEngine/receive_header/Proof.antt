@@ -1,7 +1,7 @@
 -- `receive_header`: 20, and what the connection does.
 -- Assumes nothing.
 use borrow.Author.Needs.{needs}
-use Rattle.engine.proofs.Opening.{received-20, header-received}
+use Rattle.engine.proofs.Openings.{received-20, header-received}
 use Rattle.engine.proofs.ConnectionEngine.receive_header.Statement.{statement}
 use Rattle.engine.proofs.ConnectionEngine.receive_header.Tie as tie
 

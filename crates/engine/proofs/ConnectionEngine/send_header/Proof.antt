@@ -1,7 +1,7 @@
 -- `send_header`: 9, 20, and what the connection does.
 -- Assumes nothing.
 use borrow.Author.Needs.{needs}
-use Rattle.engine.proofs.Opening.{header-9, header-20, header-sent}
+use Rattle.engine.proofs.Openings.{header-9, header-20, header-sent}
 use Rattle.engine.proofs.ConnectionEngine.send_header.Statement.{statement}
 use Rattle.engine.proofs.ConnectionEngine.send_header.Tie as tie
 

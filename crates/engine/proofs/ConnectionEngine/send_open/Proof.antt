@@ -1,7 +1,7 @@
 -- `send_open`: 9, 20, and what the connection does.
 -- Assumes nothing.
 use borrow.Author.Needs.{needs}
-use Rattle.engine.proofs.Opening.{open-9, open-20, open-sent}
+use Rattle.engine.proofs.Openings.{open-9, open-20, open-sent}
 use Rattle.engine.proofs.ConnectionEngine.send_open.Statement.{statement}
 use Rattle.engine.proofs.ConnectionEngine.send_open.Tie as tie
 
