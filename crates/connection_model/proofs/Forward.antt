@@ -117,7 +117,7 @@ pub record Alike (c d : Connection) : Type 0 where
   pub tied : stage (c .state) ≤ 2 → c .ties ≡ d .ties
 
 module _ (role : Role) (S : Settings) where
-  alike-verdict : {c d : Connection} → Alike c d → (call : Call) → decide role S c call ≡ decide role S d call
+  pub alike-verdict : {c d : Connection} → Alike c d → (call : Call) → decide role S c call ≡ decide role S d call
   alike-verdict {c} {d} a call =
       same-verdict (c .state) (c .readingLimit) (c .taken) (c .writingLimit) (d .writingLimit) (c .agreedMax) (d .agreedMax) (c .handOut) (d .handOut) (c .ties) (d .ties)
       (a .writing) (a .list) (a .tied) role S call
@@ -178,10 +178,13 @@ module _ (role : Role) (S : Settings) where
   alike-after H refused a = a
   alike-after H (holds {a = o} l) a = alike-effect H (o .effect) l a
 
+  -- after the same verdict on a call
+  pub alike-by : {c d : Connection} → Alike c d → (call : Call) (v : Verdict Outcome) → decide role S c call ≡ v → Alike (after S v c) (after S v d)
+  alike-by {c} {d} a call v q =
+      subst (λ u. Alike (after S u c) (after S u d)) q (alike-after (λ h. Unit {0}) (lawful (λ h. Unit {0}) role S c call (lends-any call)) a)
+
   pub alike-next : {c d : Connection} → Alike c d → (call : Call) → Alike (next role S c call) (next role S d call)
-  alike-next {c} {d} a call =
-      subst (λ v. Alike (next role S c call) (after S v d)) (alike-verdict a call)
-      (alike-after (λ h. Unit {0}) (lawful (λ h. Unit {0}) role S c call (lends-any call)) a)
+  alike-next {c} {d} a call = subst (λ v. Alike (next role S c call) (after S v d)) (alike-verdict a call) (alike-by a call (decide role S c call) refl)
 
   pub alike-seen : {c d : Connection} → Alike c d → (call : Call) → seen role S c call ≡ seen role S d call
   alike-seen a call = ap (λ v. let s : Seen = record { answer = answered v; output = laid (written v) (lent call) } in s) (alike-verdict a call)

@@ -57,11 +57,11 @@ module _ (role : Role) (S : Settings) where
       {c d : Connection} → Alike c d → (call : Call) (f g : M.Outcome → Verdict Result)
       → ((w : M.Outcome) → Alike (apply S (w .effect) c) (apply S (w .effect) d) → SameResult (f w) (g w))
       → SameResult (andThen (decide role S c call) f) (andThen (decide role S d call) g)
+  unfolding andThen
   same-call {c} {d} a call f g s =
       subst (λ v. SameResult (andThen (decide role S c call) f) (andThen v g)) (alike-verdict role S a call) (by (decide role S c call) refl)
     where
       by : (v : Verdict M.Outcome) → decide role S c call ≡ v → SameResult (andThen v f) (andThen v g)
-      unfolding andThen
       by (refuse k) q = both-refuse
       by (accept w) q = s w (alike-by role S a call (accept w) q)
 
@@ -69,23 +69,20 @@ module _ (role : Role) (S : Settings) where
 
   same-further :
       {c d : Connection} → Alike c d → (call : Call) (rest : Answer → Connection → Trail)
-      → ((a : Answer) {c′ d′ : Connection} → Alike c′ d′ → SameTrail (rest a c′) (rest a d′))
+      → ((a : Answer) (c′ d′ : Connection) → Alike c′ d′ → SameTrail (rest a c′) (rest a d′))
       → (v : Verdict M.Outcome) → decide role S c call ≡ v → SameTrail (further S c rest v) (further S d rest v)
   same-further a call rest s (refuse k) q = record { last = refl; bytes = refl; inside = a }
   same-further a call rest s (accept w) q =
-      let t = s (w .answer) (alike-by role S a call (accept w) q) in
+      let t = s (w .answer) _ _ (alike-by role S a call (accept w) q) in
       record { last = t .last; bytes = ap (λ b. w .bytes ++ b) (t .bytes); inside = t .inside }
 
   same-trail : (calls : List Call) (last : Answer) {c d : Connection} → Alike c d → SameTrail (trail role S last c calls) (trail role S last d calls)
   same-trail [] last a = record { last = refl; bytes = refl; inside = a }
   same-trail (call ∷ calls) last {c} {d} a =
       subst (λ v. SameTrail (trail role S last c (call ∷ calls)) (further S d (λ x c′. trail role S x c′ calls) v)) (alike-verdict role S a call)
-      (same-further a call (λ x c′. trail role S x c′ calls) (λ x s. same-trail calls x s) (decide role S c call) refl)
+      (same-further a call (λ x c′. trail role S x c′ calls) (λ x c′ d′ s. same-trail calls x s) (decide role S c call) refl)
 
   -- ---- where an event lands
-
-  same-landing : (p q : Phase) {c d : Connection} (bytes : List ℕ) → p ≡ q → Alike c d → SameLanding (landing p c bytes) (landing q d bytes)
-  same-landing p q bytes e a = record { phase = e; bytes = refl; inside = a }
 
   same-fail : (f : Option Fault) {c d : Connection} → Alike c d → (bytes out : List ℕ) → SameLanding (fail role S f c bytes out) (fail role S f d bytes out)
   same-fail none a bytes out = record { phase = refl; bytes = refl; inside = a }
@@ -100,14 +97,14 @@ module _ (role : Role) (S : Settings) where
       by (accept w) q = let b = alike-by role S a the-close (accept w) q in record { phase = ap (E.closedWith (f .outcome)) (b .state); bytes = refl; inside = b }
 
   same-onward :
-      (out : List ℕ) (rest rest′ : Connection → List ℕ → Landing) → ({c d : Connection} (bytes : List ℕ) → Alike c d → SameLanding (rest c bytes) (rest′ d bytes))
+      (out : List ℕ) (rest rest′ : Connection → List ℕ → Landing) → ((c d : Connection) (bytes : List ℕ) → Alike c d → SameLanding (rest c bytes) (rest′ d bytes))
       → (v : Verdict Answer) (bytes : List ℕ) {c d : Connection} → Alike c d
       → SameLanding (onward role S out rest (record { last = v; connection = c; bytes = bytes })) (onward role S out rest′ (record { last = v; connection = d; bytes = bytes }))
   same-onward out rest rest′ s (refuse k) bytes a = same-fail (sendFault k) a bytes out
-  same-onward out rest rest′ s (accept x) bytes a = s bytes a
+  same-onward out rest rest′ s (accept x) bytes a = s _ _ bytes a
 
   same-along :
-      (out : List ℕ) (rest rest′ : Connection → List ℕ → Landing) → ({c d : Connection} (bytes : List ℕ) → Alike c d → SameLanding (rest c bytes) (rest′ d bytes))
+      (out : List ℕ) (rest rest′ : Connection → List ℕ → Landing) → ((c d : Connection) (bytes : List ℕ) → Alike c d → SameLanding (rest c bytes) (rest′ d bytes))
       → (t u : Trail) → SameTrail t u → SameLanding (onward role S out rest t) (onward role S out rest′ u)
   same-along out rest rest′ s t u r =
       subst (λ l. SameLanding (onward role S out rest t) (onward role S out rest′ (record { last = l; connection = u .connection; bytes = u .bytes }))) (r .last)
@@ -125,13 +122,14 @@ module _ (role : Role) (S : Settings) where
       (waiting : List (List ℕ)) (out : List ℕ) (close : Bool) (v : Verdict Answer) {c d : Connection} → Alike c d
       → SameLanding (answering role S waiting out close v c) (answering role S waiting out close v d)
   same-answering waiting out true v {c} {d} a =
-      same-along out _ _ (λ bytes b. record { phase = phase-answered v (c .state) _ (d .state) _ (a .state) (b .state); bytes = refl; inside = b }) _ _ (same-trail (sending waiting none out) (wrote 0) a)
+      same-along out (λ c′ bytes. landing (phaseAnswered role (c .state) v (c′ .state)) c′ bytes) (λ d′ bytes. landing (phaseAnswered role (d .state) v (d′ .state)) d′ bytes)
+      (λ c′ d′ bytes b. record { phase = phase-answered v (c .state) _ (d .state) _ (a .state) (b .state); bytes = refl; inside = b }) _ _ (same-trail (sending waiting none out) (wrote 0) a)
   same-answering waiting out false v {c} {d} a = same-readTo out (c .state) (d .state) (a .state) v [] a
 
   same-received :
-      (waiting : List (List ℕ)) (out : List ℕ) (close : Bool) {c d : Connection} (v : Verdict M.Outcome) → Alike (after S v c) (after S v d)
+      (waiting : List (List ℕ)) (out : List ℕ) (close : Bool) (c d : Connection) (v : Verdict M.Outcome) → Alike (after S v c) (after S v d)
       → SameLanding (E.received role S waiting out close c v) (E.received role S waiting out close d v)
-  same-received waiting out close {c} {d} v b =
+  same-received waiting out close c d v b =
       subst (λ x. SameLanding (E.received role S waiting out close c v) (answering role S waiting out (close && is CloseReceived x) (answered v) (after S v d))) (b .state)
       (same-answering waiting out (close && is CloseReceived (after S v c .state)) (answered v) b)
 
@@ -142,7 +140,7 @@ module _ (role : Role) (S : Settings) where
   same-reads :
       (waiting : List (List ℕ)) (out : List ℕ) (close : Bool) (v : Verdict M.Outcome) (p : Phase) {c d : Connection} → Alike c d → Alike (after S v c) (after S v d)
       → SameLanding (reads role S waiting out close v (record { phase = p; connection = c })) (reads role S waiting out close v (record { phase = p; connection = d }))
-  same-reads waiting out close v running a b = same-received waiting out close v b
+  same-reads waiting out close v running a b = same-received waiting out close _ _ v b
   same-reads waiting out close v (awaiting kept) a b = same-awaited kept a v b
   same-reads waiting out close v (stopped kept) a b = record { phase = refl; bytes = refl; inside = a }
 
@@ -165,7 +163,7 @@ module _ (role : Role) (S : Settings) where
   same-goes : (out : List ℕ) (t u : Trail) → SameTrail t u → SameResult (goes role S out t) (goes role S out u)
   same-goes out t u r =
       subst (λ l. SameResult (goes role S out t) (accept (record { lands = onward role S out settles u; consumed = 0; inner = some l }))) (r .last)
-      (both-accept (same-along out settles settles (λ bytes b. record { phase = ap settled (b .state); bytes = refl; inside = b }) t u r))
+      (both-accept (same-along out settles settles (λ c d bytes b. record { phase = ap settled (b .state); bytes = refl; inside = b }) t u r))
     where
       settles : Connection → List ℕ → Landing
       settles c bytes = landing (settled (c .state)) c bytes

@@ -5,3 +5,4 @@ pub mod Frames
 pub mod Calls
 pub mod Ending
 pub mod Keeping
+pub mod Alike

@@ -5,3 +5,5 @@ pub mod Crossings
 pub mod Keeping
 pub mod Starting
 pub mod Readings
+pub mod Runs
+pub mod Theorem

@@ -1,3 +1,4 @@
 pub mod Answers
 pub mod Crossing
 pub mod Promises
+pub mod Lists
