@@ -13,12 +13,11 @@ use Rattle.frame_encoder.specs.Frames.{Settings}
 use Rattle.connection_model.specs.Connection.{Role, Answer, Outcome, Call, decide, seen, next, lent, answered, after, written, fresh}
 use Rattle.connection_model.specs.Sound.{Reached}
 use Rattle.connection_model.proofs.Invariant.{reached-next, reached-fresh, shares}
-use Rattle.endpoint.specs.Promises.{Steps, Sends, Same, Begins}
+use Rattle.endpoint.specs.Promises.{Steps, Sends, Same, Begins, CountsSessions}
 use Rattle.endpoint.specs.declared.Endpoint.{Endpoint}
 use Rattle.endpoint.specs.declared.Role as R
 use Rattle.endpoint.specs.Answers as E
 use Rattle.endpoint.specs.Answers.{roleSays}
-use Rattle.endpoint.specs.Promises as P
 use Rattle.octets.specs.declared.Written.{Written}
 use Rattle.octets.specs.declared.Written.the-variants.{Bytes, Refused}
 use Rattle.octets.proofs.Written.{the-type}
@@ -110,7 +109,7 @@ makes role S r e p b =
 
 -- ---- a count
 
-pub counts-taken : (c : Connection) (n : ℕ) → P.Counts (c .endpoint) n → Counts c n
+pub counts-taken : (c : Connection) (n : ℕ) → CountsSessions (c .endpoint) n → Counts c n
 counts-taken c n e = record { counts = λ z. e .counts (shares (z .reached)) }
 
 -- ---- a move, by what was written

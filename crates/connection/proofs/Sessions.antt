@@ -42,7 +42,7 @@ use Rattle.endpoint.specs.declared.Endpoint.{Endpoint}
 use Rattle.endpoint.specs.declared.FrameAnswer.{FrameAnswer}
 use Rattle.endpoint.specs.declared.Incoming.{Incoming}
 use Rattle.endpoint.specs.Answers.{answerSays, allocateSays, deallocateSays, frameOf}
-use Rattle.endpoint.specs.Promises.{Steps, Sends, Frees, Same}
+use Rattle.endpoint.specs.Promises.{Steps, Sends, FreesSession, Same}
 use Rattle.connection.specs.declared.Connection.{Connection}
 use Rattle.connection.specs.declared.ReceivedHeader.{ReceivedHeader}
 use Rattle.connection.specs.View.{roleOf, settingsOf, viewOf, Sound, headerSays}
@@ -93,7 +93,7 @@ module _ (c : Connection) where
       subst (λ w. Does (allocate h) c w [] (holding c e)) (sym q)
       (reads-does (allocate h) c (holding c e) (given h (viewOf c .handOut)) v refl (quiet-given h (viewOf c .handOut)) (λ z. require-on 22 _ _ (ap not (sym p ∙ t))) (stepped c _ v e s))
 
-  pub frees-does : (ch : ℕ) (a : Held) (e : Endpoint) → Frees (c .endpoint) ch a e → Does (deallocate ch) c (deallocateSays a) [] (holding c e)
+  pub frees-does : (ch : ℕ) (a : Held) (e : Endpoint) → FreesSession (c .endpoint) ch a e → Does (deallocate ch) c (deallocateSays a) [] (holding c e)
   frees-does ch a e f =
       does (deallocate ch) c (holding c e) (released ch (viewOf c .taken ch)) (deallocateSays a) [] (λ z. refl) (λ z. f .frees (shares (z .reached)) .says)
       (λ z. quiet-released ch (viewOf c .taken ch) .silent) (λ z. f .frees (shares (z .reached)) .leaves _) (f .frees-same .same-role) (f .frees-same .same-settings)

@@ -15,7 +15,7 @@ use Rattle.connection_state.proofs.States.{is-state}
 use Rattle.channels.specs.Numbers.{Map, nowhere, with, upFrom, EachOnce, Shared}
 use Rattle.connection_model.specs.Connection.{Role, Connection, fresh, Call, Effect, stay, go, agree, take, give, tie, takeAndTie, Outcome, connection, apply, after, next, run}
 use Rattle.connection_model.specs.Sound.{Unopened, TiedWithin, Agreed, Reached}
-use Rattle.connection_model.proofs.Rules.{Holds, refused, holds, implied, everywhere, stage, true-is, Lends, Holder, Ties, Takes, Legit, Lawful, lawful, lends-any}
+use Rattle.connection_model.proofs.Rules.{Holds, refused, holds, implied, everywhere, stage, true-is, Lends, Holder, MayTie, MayTake, Legit, Lawful, lawful, lends-any}
 use Rattle.channels.proofs.Numbers.{once-fresh, once-taken, shared-take, shared-give}
 
 -- ---- the two cases
@@ -86,13 +86,13 @@ module _ (S : Settings) (m : ℕ) (c : Connection) (a : Agreed S m c) where
   }
 
 module _ (H : ℕ → Type 0) (S : Settings) where
-  keeps-take : (ch : ℕ) (rest : List ℕ) (h : ℕ) (c : Connection) → Takes H c ch rest h → Reached S c → Reached S (apply S (take ch rest h) c)
+  keeps-take : (ch : ℕ) (rest : List ℕ) (h : ℕ) (c : Connection) → MayTake H c ch rest h → Reached S c → Reached S (apply S (take ch rest h) c)
   keeps-take ch rest h c l i = record {
     unopened = λ q. nothing-some _ _ (ap (λ d. d .handOut) (i .unopened q .at-first)) (l .next);
     agreed = λ m q. let a = i .agreed m q in other-numbers S m c a _ _ (shared-take (some m) (c .handOut) (c .taken) ch rest h (l .next) (a .shared));
   }
 
-  keeps-tie : (ch : ℕ) (h : Option ℕ) (c : Connection) → Ties S c ch h → Reached S c → Reached S (apply S (tie ch h) c)
+  keeps-tie : (ch : ℕ) (h : Option ℕ) (c : Connection) → MayTie S c ch h → Reached S c → Reached S (apply S (tie ch h) c)
   keeps-tie ch h c l i = record {
     unopened = λ q. holderless h (i .unopened q .at-first) (l .holder);
     agreed = λ m q. other-ties S m c (i .agreed m q) (l .open-yet) ch h (l .most);

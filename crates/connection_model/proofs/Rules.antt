@@ -132,13 +132,13 @@ fails-too : (a b : Bool) → T (cond a b true) → b ≡ false → a ≡ false
 fails-too true b t e = absurd (subst T e t)
 fails-too false b t e = refl
 
-pub record Goes (from to : State) : Type 0 where
+pub record MayGo (from to : State) : Type 0 where
   pub later : stage from ≤ stage to
   pub not-after : isOneOf afterOpen from ≡ false → isOneOf afterOpen to ≡ false
   pub not-before : isOneOf beforeOpen from ≡ false → isOneOf beforeOpen to ≡ false
   pub not-received : is OpenReceived to ≡ false
 
-goes : (a b : State) → T (onward a b) → Goes a b
+goes : (a b : State) → T (onward a b) → MayGo a b
 goes a b t =
     let after = cond (isOneOf afterOpen b) (isOneOf afterOpen a) true in
     let before = cond (isOneOf beforeOpen b) (isOneOf beforeOpen a) true in
@@ -215,7 +215,7 @@ abbrev pub Holder : Connection → ℕ → Option ℕ → Type 0
 Holder c ch none = (h : ℕ) × (c .ties ch ≡ some h)
 Holder c ch (some h) = (n : ℕ) × (c .taken n ≡ some h)
 
-pub record Agrees (S : Settings) (from to : State) (m w : ℕ) : Type 0 where
+pub record MayAgree (S : Settings) (from to : State) (m w : ℕ) : Type 0 where
   pub first : isOneOf beforeOpen from ≡ true
   pub later : stage from ≤ stage to
   pub opened : isOneOf beforeOpen to ≡ false
@@ -223,23 +223,23 @@ pub record Agrees (S : Settings) (from to : State) (m w : ℕ) : Type 0 where
   pub low : 512 ≤ w
   pub high : w ≤ 16384
 
-pub record Ties (S : Settings) (c : Connection) (ch : ℕ) (h : Option ℕ) : Type 0 where
+pub record MayTie (S : Settings) (c : Connection) (ch : ℕ) (h : Option ℕ) : Type 0 where
   pub open-yet : 2 ≤ stage (c .state)
   pub most : ch ≤ S .channelMax
   pub holder : Holder c ch h
 
-pub record Takes (H : ℕ → Type 0) (c : Connection) (ch : ℕ) (rest : List ℕ) (h : ℕ) : Type 0 where
+pub record MayTake (H : ℕ → Type 0) (c : Connection) (ch : ℕ) (rest : List ℕ) (h : ℕ) : Type 0 where
   pub next : c .handOut ≡ some (ch ∷ rest)
   pub lent : H h
 
 abbrev pub Legit : (ℕ → Type 0) → Settings → Connection → Effect → Type 0
 Legit H S c stay = Unit {0}
-Legit H S c (go x) = Goes (c .state) x
-Legit H S c (agree x m w) = Agrees S (c .state) x m w
-Legit H S c (take ch rest h) = Takes H c ch rest h
+Legit H S c (go x) = MayGo (c .state) x
+Legit H S c (agree x m w) = MayAgree S (c .state) x m w
+Legit H S c (take ch rest h) = MayTake H c ch rest h
 Legit H S c (give ch) = (h : ℕ) × (c .taken ch ≡ some h)
-Legit H S c (tie ch h) = Ties S c ch h
-Legit H S c (takeAndTie ch rest h at) = Takes H c ch rest h × (2 ≤ stage (c .state)) × (at ≤ S .channelMax)
+Legit H S c (tie ch h) = MayTie S c ch h
+Legit H S c (takeAndTie ch rest h at) = MayTake H c ch rest h × (2 ≤ stage (c .state)) × (at ≤ S .channelMax)
 
 abbrev pub Lawful : (ℕ → Type 0) → Settings → Connection → Outcome → Type 0
 Lawful H S c o = Legit H S c (o .effect)
@@ -249,7 +249,7 @@ module _ (H : ℕ → Type 0) (role : Role) (S : Settings) (c : Connection) wher
   Fine v = Holds (Lawful H S c) v
 
   -- a move along a table
-  moved : (table : List Move) → T (eachRow onward table) → (f : State → Verdict Outcome) → ((x : State) → Goes (c .state) x → Fine (f x)) → Fine (andThen (along table (c .state)) f)
+  moved : (table : List Move) → T (eachRow onward table) → (f : State → Verdict Outcome) → ((x : State) → MayGo (c .state) x → Fine (f x)) → Fine (andThen (along table (c .state)) f)
   moved table t f g = on-andThen _ _ (on-along onward table t (c .state)) (λ x u. g x (goes (c .state) x u))
 
   on-headed : (p : Protocol) → Fine (headed c p)
@@ -260,11 +260,11 @@ module _ (H : ℕ → Type 0) (role : Role) (S : Settings) (c : Connection) wher
   module _ (f : Frame) (le : f .channel ≤ S .channelMax) where
     on-tieTo : 2 ≤ stage (c .state) → (r : ℕ) (o : Option ℕ) → c .taken r ≡ o → Fine (tieTo f o)
     on-tieTo u r none e = refused
-    on-tieTo u r (some h) e = let l : Ties S c (f .channel) (some h) = record { open-yet = u; most = le; holder = (r, e) } in holds l
+    on-tieTo u r (some h) e = let l : MayTie S c (f .channel) (some h) = record { open-yet = u; most = le; holder = (r, e) } in holds l
 
     on-untie : 2 ≤ stage (c .state) → (o : Option ℕ) → c .ties (f .channel) ≡ o → Fine (untie f o)
     on-untie u none e = refused
-    on-untie u (some h) e = let l : Ties S c (f .channel) none = record { open-yet = u; most = le; holder = (h, e) } in holds l
+    on-untie u (some h) e = let l : MayTie S c (f .channel) none = record { open-yet = u; most = le; holder = (h, e) } in holds l
 
     on-passOn : (code : ℕ) (o : Option ℕ) → Fine (passOn f code o)
     on-passOn code none = refused
@@ -274,7 +274,7 @@ module _ (H : ℕ → Type 0) (role : Role) (S : Settings) (c : Connection) wher
     on-newSession dialler u h k l e = refused
     on-newSession listener u h k none e = refused
     on-newSession listener u h k (some []) e = refused
-    on-newSession listener u h k (some (ch ∷ rest)) e = let l : Takes H c ch rest h = record { next = e; lent = k } in let m : Legit H S c (takeAndTie ch rest h (f .channel)) = (l, u, le) in holds m
+    on-newSession listener u h k (some (ch ∷ rest)) e = let l : MayTake H c ch rest h = record { next = e; lent = k } in let m : Legit H S c (takeAndTie ch rest h (f .channel)) = (l, u, le) in holds m
 
     on-begun : 2 ≤ stage (c .state) → (h : ℕ) → H h → (rs : List ℕ) → Fine (begun role c f h rs)
     on-begun u h k [] = on-newSession role u h k (c .handOut) refl
@@ -319,7 +319,7 @@ module _ (H : ℕ → Type 0) (role : Role) (S : Settings) (c : Connection) wher
   on-tiedBy listener [] t u n o e = holds tt
   on-tiedBy listener (r ∷ rs) t u n none e = refused
   on-tiedBy listener (r ∷ rs) t u n (some h) e =
-      let l : Ties S c r (some h) = record { open-yet = u; most = leb→le _ _ (and-left (leb r (S .channelMax)) (within (S .channelMax) rs) t); holder = (n, e) } in
+      let l : MayTie S c r (some h) = record { open-yet = u; most = leb→le _ _ (and-left (leb r (S .channelMax)) (within (S .channelMax) rs) t); holder = (n, e) } in
       holds l
 
   on-sent : (s : List ℕ) (r : Frame × Performative) → NamesWithin (S .channelMax) (r .1) → Fine (sessionSent role c s r)
@@ -332,7 +332,7 @@ module _ (H : ℕ → Type 0) (role : Role) (S : Settings) (c : Connection) wher
   on-given : (h : ℕ) → H h → (l : Option (List ℕ)) → c .handOut ≡ l → Fine (given h l)
   on-given h k none e = refused
   on-given h k (some []) e = refused
-  on-given h k (some (ch ∷ rest)) e = let l : Takes H c ch rest h = record { next = e; lent = k } in holds l
+  on-given h k (some (ch ∷ rest)) e = let l : MayTake H c ch rest h = record { next = e; lent = k } in holds l
 
   on-released : (ch : ℕ) (o : Option ℕ) → c .taken ch ≡ o → Fine (released ch o)
   on-released ch none e = refused

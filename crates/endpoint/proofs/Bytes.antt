@@ -34,7 +34,7 @@ use Rattle.connection_model.proofs.Valid.{both, bytes-append, bytes-number}
 use Rattle.connection_model.proofs.Invariant.{reading-within, writing-within, tied-within, shares}
 use Rattle.connection_model.proofs.Apart.{settings-within}
 use Rattle.endpoint.specs.Bytes.{roleNumber, endpointBytes, Storable}
-use Rattle.endpoint.specs.Parts.{Holds}
+use Rattle.endpoint.specs.Parts.{HasRoom}
 use Rattle.endpoint.proofs.Octets.{handles-octets, channels-octets, settings-octets}
 
 -- ---- what has room in the bytes
@@ -53,7 +53,7 @@ unfolding agreedSays
 agreed-byte t h = held-fits 1 (t .opened) (t .highest) h
 
 -- what bytes can stand for has room in them
-pub storable-holds : {S : Settings} {c : Connection} → Storable S c → Holds S c
+pub storable-holds : {S : Settings} {c : Connection} → Storable S c → HasRoom S c
 storable-holds {S} {c} f =
     let w = settings-within (S .containerId) (S .maxFrameSize) (S .channelMax) (f .within) in
     let r = reading-within (f .reached) (w .0) (w .1) in
@@ -191,7 +191,7 @@ module _ (a b : Option ℕ) (l m : Option (List ℕ)) (f g : Map) (w : Fits 1 a)
 
 -- ---- bytes stand for one endpoint only
 
-module _ (role role′ : Role) {S S′ : Settings} {c c′ : Connection} (x : c .state ≡ c′ .state) (h : Holds S c) (h′ : Holds S′ c′) (e : endpointBytes role S c ≡ endpointBytes role′ S′ c′) where
+module _ (role role′ : Role) {S S′ : Settings} {c c′ : Connection} (x : c .state ≡ c′ .state) (h : HasRoom S c) (h′ : HasRoom S′ c′) (e : endpointBytes role S c ≡ endpointBytes role′ S′ c′) where
   parts-both : endpointParts role S c ≡ endpointParts role′ S′ c′
   parts-both =
       same-parts (endpointParts role S c) (endpointParts role′ S′ c′)

@@ -42,7 +42,7 @@ use Rattle.endpoint.specs.declared.TablesRead.{TablesRead}
 use Rattle.endpoint.specs.Answers.{roleSays, roleOf, viewAs}
 use Rattle.endpoint.specs.Bytes.{roleNumber, endpointBytes, Storable}
 use Rattle.endpoint.specs.Promises.{Begins, ReadsEndpoint}
-use Rattle.endpoint.specs.Parts.{Holds, TellsReached, ReadsLimit, TablesFit, ReadsTables, UnreadEndpoint, ReadsParts}
+use Rattle.endpoint.specs.Parts.{HasRoom, TellsReached, ReadsLimit, TablesFit, ReadsTables, UnreadEndpoint, ReadsParts}
 use Rattle.endpoint.proofs.Bytes.{storable-holds, agreed-byte, length-channels, length-endpoint, held-once}
 
 -- ---- read_limit
@@ -131,7 +131,7 @@ unread-new open′ e is b = record {
 
 -- ---- the parts of an endpoint's bytes
 
-module _ (s : List ℕ) (role : M.Role) (S : Settings) (c : M.Connection) (h : Holds S c) (e : s ≡ endpointBytes role S c) where
+module _ (s : List ℕ) (role : M.Role) (S : Settings) (c : M.Connection) (h : HasRoom S c) (e : s ≡ endpointBytes role S c) where
   role-part : getD s 0 0 ≡ roleNumber role
   unfolding endpointBytes
   role-part = ap (λ x. getD x 0 0) e

@@ -29,7 +29,7 @@ use Rattle.channels.specs.declared.Allocated.{Allocated}
 use Rattle.channels.specs.declared.Allocated.the-variants.{Channel, NotOpened, Full}
 use Rattle.channels.specs.declared.Allocation.{Allocation}
 use Rattle.channels.specs.declared.Deallocation.{Deallocation}
-use Rattle.channels.specs.Channels.{handlesSay, heldSays, allocatedSays, nextOf, SharedBy, Fresh, Opens, Allocates, Frees as FreesNumber}
+use Rattle.channels.specs.Channels.{handlesSay, heldSays, allocatedSays, nextOf, SharedBy, Fresh, Opens, Allocates, Frees}
 use Rattle.channels.proofs.Allocated.{the-type}
 use Rattle.channels.proofs.Steps.{apart}
 use Rattle.channels.proofs.Laws.{next-starts}
@@ -41,7 +41,7 @@ use Rattle.endpoint.specs.declared.FrameAnswer.{FrameAnswer}
 use Rattle.endpoint.specs.declared.FrameAnswer.the-variants.{Refused}
 use Rattle.endpoint.specs.declared.Routed.{Routed}
 use Rattle.endpoint.specs.Answers.{roleSays, roleOf, settingsOf, handOutOf, takenOf, tiesOf, viewAs, answerSays, allocateSays, deallocateSays}
-use Rattle.endpoint.specs.Promises.{Same, Steps, Begins, Agrees, Frees}
+use Rattle.endpoint.specs.Promises.{Same, Steps, Begins, Agrees, FreesSession}
 
 -- ---- endpoints
 
@@ -148,7 +148,7 @@ not-freed : (a : Held) (k : ℕ) → deallocateSays a ≡ refuse k → heldSays 
 not-freed (Handle h) k e = apart (cc)
 not-freed Nothing k e = refl
 
-module _ (e : Endpoint) (ch : ℕ) (r : Deallocation) (p : FreesNumber (e .outgoing) ch r) where
+module _ (e : Endpoint) (ch : ℕ) (r : Deallocation) (p : Frees (e .outgoing) ch r) where
   handed-back : heldSays (r .answer) ≡ none → routing e (r .channels) (e .incoming) ≡ e
   handed-back n = ap (λ t. routing e t (e .incoming)) (p .refused n)
 
@@ -161,7 +161,7 @@ module _ (e : Endpoint) (ch : ℕ) (r : Deallocation) (p : FreesNumber (e .outgo
       moves (ap (released ch) q) (freed-says ch (r .answer) ∙ ap (λ o. answered (released ch o)) (p .answers s ∙ q))
       (λ x. alike x refl refl (b .agreed) (b .hand-out) (b .taken) refl) unchanged
 
-  pub deallocated : Frees e ch (r .answer) (routing e (r .channels) (e .incoming))
+  pub deallocated : FreesSession e ch (r .answer) (routing e (r .channels) (e .incoming))
   deallocated = record {
     frees = λ s. deallocated-from s (takenOf e ch) refl;
     frees-same = unchanged;

@@ -30,7 +30,7 @@ unfoldable pub headBytes : Endpoint → List ℕ
 headBytes e = roleNumber (roleOf e) ∷ (bytesOf 4 (e .«reading_limit») ++ bytesOf 4 (e .«writing_limit»))
 
 -- settings and a connection whose numbers have room in their bytes, whether or not calls can lead to it
-pub record Holds (S : Settings) (c : M.Connection) : Type 0 where
+pub record HasRoom (S : Settings) (c : M.Connection) : Type 0 where
   pub within : allowed S ≡ true
   pub idle-low : Fits 4 (S .idleTimeOut)
   pub reading-low : c .readingLimit < 256 ^ 4
@@ -96,6 +96,6 @@ pub record UnreadEndpoint (r : EndpointRead) : Type 0 where
 -- an endpoint that has these bytes, whether or not calls can lead to it, or that there is none
 pub record ReadsParts (s : List ℕ) (r : EndpointRead) : Type 0 where
   pub yes : r .fine ≡ true → (x : State) → s ≡ endpointBytes (roleOf (r .endpoint)) (settingsOf (r .endpoint)) (viewAs x (r .endpoint))
-  pub holds : r .fine ≡ true → (x : State) → Holds (settingsOf (r .endpoint)) (viewAs x (r .endpoint))
+  pub holds : r .fine ≡ true → (x : State) → HasRoom (settingsOf (r .endpoint)) (viewAs x (r .endpoint))
   pub no : r .fine ≡ false → (role : M.Role) (S : Settings) (c : M.Connection) → Storable S c → s ≡ endpointBytes role S c → ⊥
   pub new : r .fine ≡ false → Newest (r .endpoint)

@@ -49,12 +49,12 @@ pub record Agrees (before : Endpoint) (size most : ℕ) (later : Endpoint) : Typ
   pub agrees : (x y : State) → viewAs y later ≡ apply (settingsOf before) (agree y (min (settingsOf before .channelMax) most) (clamped size)) (viewAs x before)
   pub agrees-same : Same before later
 
-pub record Frees (before : Endpoint) (ch : ℕ) (a : Held) (later : Endpoint) : Type 0 where
+pub record FreesSession (before : Endpoint) (ch : ℕ) (a : Held) (later : Endpoint) : Type 0 where
   pub frees : SharedBy (before .outgoing) → Steps (released ch (takenOf before ch)) before (deallocateSays a) later
   pub frees-same : Same before later
   pub frees-refused : (k : ℕ) → deallocateSays a ≡ refuse k → later ≡ before
 
-pub record Counts (e : Endpoint) (r : ℕ) : Type 0 where
+pub record CountsSessions (e : Endpoint) (r : ℕ) : Type 0 where
   pub counts : SharedBy (e .outgoing) → r ≡ takenBelow 256 (takenOf e)
 
 -- ---- bytes

@@ -47,7 +47,7 @@ ghost use Rattle.endpoint.specs.Answers.{
   tieSays,
   refusalOf,
 };
-ghost use Rattle.endpoint.specs.Promises.{Steps, Sends, Begins, Agrees, Frees, Counts, ReadsEndpoint, WritesEndpoint};
+ghost use Rattle.endpoint.specs.Promises.{Steps, Sends, Begins, Agrees, FreesSession, CountsSessions, ReadsEndpoint, WritesEndpoint};
 ghost use Rattle.endpoint.specs.Bytes.{roleNumber};
 ghost use Rattle.endpoint.specs.Parts.{headBytes, TellsUnopened, TellsLimits, TellsAgreed, TellsReached, ReadsLimit, ReadsTables, UnreadEndpoint, ReadsParts};
 ghost use Rattle.endpoint.specs.Outgoing.{Low, Ties, tiesAndWrites};
@@ -383,7 +383,7 @@ impl Endpoint {
     }
 
     pub fn taken_count(self) -> u16
-        ensures { λ r. ⌜ Counts self r ⌝ }
+        ensures { λ r. ⌜ CountsSessions self r ⌝ }
     {
         let outgoing = self.outgoing;
         outgoing.taken_count()
@@ -417,7 +417,7 @@ impl Endpoint {
     }
 
     pub fn deallocate(mut self, channel: u16) -> SessionDeallocated
-        ensures { λ r. ⌜ Frees self channel (r .answer) (r .endpoint) ⌝ }
+        ensures { λ r. ⌜ FreesSession self channel (r .answer) (r .endpoint) ⌝ }
     {
         let outgoing = self.outgoing;
         let d = outgoing.deallocate(channel);
