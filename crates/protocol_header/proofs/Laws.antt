@@ -20,7 +20,7 @@ use Rattle.protocol_header.specs.declared.IdRead.{IdRead}
 use Rattle.protocol_header.specs.declared.IdRead.the-variants.{Id, Unknown}
 use Rattle.protocol_header.specs.declared.HeaderRead.{HeaderRead}
 use Rattle.protocol_header.specs.declared.HeaderRead.the-variants.{Amqp as Amqp100, Other, Malformed, Missing}
-use Rattle.protocol_header.specs.Header.{ProtocolHeader, prefix, isProtocolId, protocolId, startsWith, header, headerBytes, writeHeader}
+use Rattle.protocol_header.specs.Header.{ProtocolHeader, prefix, isProtocolId, protocolId, startsWithAll, header, headerBytes, writeHeader}
 use Rattle.protocol_header.specs.Answers.{idNumber, headerOf, idSays, headerSays}
 
 apart : {A : Type 0} → _≡_ {A = ℕ} 0 1 → A
@@ -29,7 +29,7 @@ apart z = absurd (omega arith)
 -- ---- what was written is read
 
 pub read-bytes : (h : ProtocolHeader) (t : List ℕ) → isProtocolId (h .id) ≡ true → header (headerBytes h ++ t) ≡ accept h
-unfolding header headerBytes startsWith protocolId require andThen
+unfolding header headerBytes startsWithAll protocolId require andThen
 read-bytes h t e = rw (le-leb 8 (length (headerBytes h ++ t)) (omega arith), e)
 
 pub number-is-id : (id : ProtocolId) → isProtocolId (idNumber id) ≡ true
@@ -49,8 +49,8 @@ read-written h out e = rw e (read-back h _)
 
 -- ---- the first eight bytes decide
 
-starts-take : (p s t : List ℕ) (n : ℕ) → length p ≤ n → n ≤ length s → startsWith p (take n s ++ t) ≡ startsWith p s
-unfolding startsWith
+starts-take : (p s t : List ℕ) (n : ℕ) → length p ≤ n → n ≤ length s → startsWithAll p (take n s ++ t) ≡ startsWithAll p s
+unfolding startsWithAll
 starts-take [] s t n h l = refl
 starts-take (b ∷ p) [] t n h l = absurd (omega arith)
 starts-take (b ∷ p) (x ∷ s) t zero h l = absurd (omega arith)
@@ -78,11 +78,11 @@ eight-decide s t l =
 and-was : (a b : Bool) → a && b ≡ true → (a ≡ true) × (b ≡ true)
 and-was a b e = and-eq-true-iff a b .0 e
 
-starts-was : (p s : List ℕ) → startsWith p s ≡ true → take (length p) s ≡ p
-unfolding startsWith
+starts-was : (p s : List ℕ) → startsWithAll p s ≡ true → take (length p) s ≡ p
+unfolding startsWithAll
 starts-was [] s e = refl
 starts-was (b ∷ p) [] e = absurd (false≢true e)
-starts-was (b ∷ p) (x ∷ s) e = let q : (eqb x b ≡ true) × (startsWith p s ≡ true) = and-was _ _ e in rw (eqb-true x b (q .0), starts-was p s (q .1))
+starts-was (b ∷ p) (x ∷ s) e = let q : (eqb x b ≡ true) × (startsWithAll p s ≡ true) = and-was _ _ e in rw (eqb-true x b (q .0), starts-was p s (q .1))
 
 take-eight : (s : List ℕ) → 8 ≤ length s → take 8 s ≡ take 4 s ++ getD s 4 0 ∷ getD s 5 0 ∷ getD s 6 0 ∷ getD s 7 0 ∷ []
 take-eight s l =

@@ -14,7 +14,7 @@ use borrow.Author.Tests.{ne-eqb}
 use Rattle.octets.specs.Verdict.{Verdict, refuse, accept, andThen}
 use Rattle.octets.specs.Octets.{bigEndian}
 use Rattle.octets.proofs.Laws.{require-was, then-accept}
-use Rattle.values.specs.Value.{Reader, Shape, list, map, array, Kind, fixed, boolean, variable, compound, codes, kindIn, kindOf, plus, followedBy, times, bytes, numberIn, booleanEnd, variableEnd, items, compoundEnd, body, afterCode, level, nowhere, run, valueEnd}
+use Rattle.values.specs.Value.{Reader, Shape, list, map, array, Kind, fixed, boolean, variable, compound, codes, kindIn, kindOf, plus, followedBy, times, bytes, numberIn, booleanEnd, variableEnd, items, compoundEnd, body, afterCode, level, noValues, run, valueEnd}
 use Rattle.values.proofs.Cases.{bytes-yes}
 use Rattle.values.proofs.Apart.{never, accepted, then-was, plus-was, plus-is, both-was, both-is, bytes-was, number-was, number-is, compound-was, compound-is}
 use Rattle.values.proofs.Bounds.{Within, holds-accept, holds-refuse, within-body, within-run}
@@ -122,7 +122,7 @@ module _ (r : ℕ → Reader) (bound : (n : ℕ) (s : List ℕ) → Within (leng
 
 pub run-local : (d count : ℕ) (s : List ℕ) (n : ℕ) → run d count s ≡ accept n → (t : List ℕ) → run d count (take n s ++ t) ≡ accept n
 unfolding run
-run-local zero zero s n e t = local-level nowhere (λ count u. refl) (λ count u m q v. absurd (never 6 m q)) 0 s n e t
+run-local zero zero s n e t = local-level noValues (λ count u. refl) (λ count u m q v. absurd (never 6 m q)) 0 s n e t
 run-local zero (suc k) s n e t = absurd (never 6 n e)
 run-local (suc d) count s n e t = local-level (run d) (within-run d) (run-local d) count s n e t
 
@@ -142,7 +142,7 @@ level-some r count (c ∷ s) n e = let p = plus-was 1 (afterCode r count (eqb c 
 
 pub run-some : (d count : ℕ) (s : List ℕ) (n : ℕ) → run d count s ≡ accept n → 1 ≤ n
 unfolding run
-run-some zero zero s n e = level-some nowhere 0 s n e
+run-some zero zero s n e = level-some noValues 0 s n e
 run-some zero (suc k) s n e = absurd (never 6 n e)
 run-some (suc d) count s n e = level-some (run d) count s n e
 
@@ -208,7 +208,7 @@ module _ (r r′ : ℕ → Reader) (h : (n : ℕ) → More (r n) (r′ n)) where
 
 pub run-deeper : (d count : ℕ) (s : List ℕ) (n : ℕ) → run d count s ≡ accept n → run (suc d) count s ≡ accept n
 unfolding run
-run-deeper zero zero s n e = more-level nowhere (run 0) (λ count t m q. absurd (never 6 m q)) 0 s n e
+run-deeper zero zero s n e = more-level noValues (run 0) (λ count t m q. absurd (never 6 m q)) 0 s n e
 run-deeper zero (suc k) s n e = absurd (never 6 n e)
 run-deeper (suc d) count s n e = more-level (run d) (run (suc d)) (run-deeper d) count s n e
 

@@ -12,7 +12,7 @@ use lib.ListN.{replicate, drop, length}
 use Rattle.octets.specs.Verdict.{Verdict, refuse, accept, require, andThen}
 use Rattle.octets.specs.Octets.{bigEndianFrom, bigEndian, bytesOf, startsWith}
 use Rattle.octets.specs.Output.{roomFor}
-use Rattle.protocol_header.specs.Header.{ProtocolHeader, isProtocolId, protocolId, startsWith as startsWithAll, header, hasId, isAmqp100, protocol, received, headerBytes}
+use Rattle.protocol_header.specs.Header.{ProtocolHeader, isProtocolId, protocolId, startsWithAll, header, hasId, isAmqp100, protocol, received, headerBytes}
 use Rattle.values.specs.Value.{plus, followedBy, times, codes, kindIn, kindOf, bytes, numberIn, booleanEnd, variableEnd, pairedIn, opening as openingOf, items, compoundEnd, body, afterCode, level, run as runOf, valueEnd}
 use Rattle.performatives.specs.Fields.{fieldsIn, fieldsOf}
 use Rattle.performatives.specs.Performative.{Performative, numberOf, sized, listAt, descriptor, described, split, errorShape, isError, hasType, fits, fit, fieldsBy, rowsFor, performativeBy, performative, numberOr, remoteChannel, startOf, conditionAt, condition}
