@@ -1,4 +1,4 @@
--- A Close that was written is read back with its error, or with none.
+-- A Close that was written is read back with its error, or with none. The result is `close-read-back`.
 -- Assumes nothing.
 use mathlib.Core.Path.{_≡_, refl, ap, _∙_}
 use mathlib.Core.Bool.{true, false}

@@ -1,4 +1,4 @@
--- An empty frame that was written is read back: a frame with no performative.
+-- An empty frame that was written is read back: a frame with no performative. The result is `empty-read-back`.
 -- Assumes nothing.
 use mathlib.Core.Path.{_≡_, refl}
 use mathlib.Core.List.{List, [], _++_}

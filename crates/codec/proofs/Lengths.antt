@@ -1,11 +1,11 @@
 -- How long a session's frame is that is written out: at most twice as long as it was lent. No value grows in its shortest form; only defaults are added, and with them
--- the list's header may grow.
+-- the list's header may grow. The result is `session-short`.
 -- Assumes nothing.
 use mathlib.Core.Path.{_≡_, refl, sym, ap, _∙_}
 use mathlib.Core.Bool.{Bool, true, false, cond, not, _&&_, _||_, false≢true}
 use mathlib.Core.Logic.{_⊎_, inl, inr}
 use mathlib.Core.List.{List, [], _∷_, _++_, append-nil}
-use mathlib.Core.Option.{none, some}
+use mathlib.Core.Option.{some}
 use Prim.Native.Nat.{ℕ, zero, suc, _+_, _*_, _-_, _^_, _<_, _≤_}
 use native.Mathlib.Omega.{arith}
 use lib.ListN.{length, take, drop, length-append, length-drop}
@@ -16,7 +16,7 @@ use Rattle.octets.specs.Verdict.{Verdict, refuse, accept, andThen}
 use Rattle.octets.specs.Octets.{bigEndian, bigEndianFrom, bytesOf, startsWith}
 use Rattle.octets.proofs.Laws.{require-was, length-bytesOf}
 use Rattle.values.specs.Value.{list, fixed, variable, codes, kindIn, kindOf, opening, valueEnd}
-use Rattle.values.specs.Null.{null, isNull}
+use Rattle.values.specs.Null.{isNull}
 use Rattle.values.proofs.Apart.{accepted, never, then-was, number-was, opening-was}
 use Rattle.values.proofs.Laws.{value-some, value-fixed, value-variable}
 use Rattle.values.proofs.Written.{Whole, Each}
@@ -24,12 +24,11 @@ use Rattle.serializer.specs.Written.{uint, ushort, text, joined, before, trimme
 use Rattle.serializer.proofs.Laws.{uint-len-none, uint-len-small, text-len-short, text-len-long, header-len-none, header-len-small, header-few}
 use Rattle.performatives.specs.Fields.{FieldType, Any, UShort, UInt, String, Error, Field, performatives, fieldsIn, fieldsOf}
 use Rattle.performatives.specs.Performative.{numberOf, Items, sized, listAt, descriptor, Described, described, split, itemsOf, errorShape, isError, hasType, fits, fit, fieldsBy, Performative, performative}
-use Rattle.performatives.proofs.Front.{part-front}
 use Rattle.performatives.proofs.Codes.{starts-some}
 use Rattle.performatives.proofs.Bounds.{list-some, described-lies}
 use Rattle.performatives.proofs.Laws as read
 use Rattle.frame_decoder.specs.Frame.{Frame, bodyIn, anySize, anyChannel, sessionFrame}
-use Rattle.frame_decoder.proofs.Laws.{body-length, session-was, session-only, session-frame, session-sendable}
+use Rattle.frame_decoder.proofs.Laws.{body-length, session-was, session-frame, session-sendable}
 use Rattle.frame_encoder.proofs.Laws.{length-frame}
 use Rattle.session_frame.specs.Session.{textOf, errorFields, errorOf, shortest, defaultOf, writtenAs, writtenField, writtenFields, performativeWritten, sessionBytes}
 use Rattle.codec.specs.Meaning.{Octets}
@@ -417,14 +416,6 @@ unfolding bodyIn
 body-octets f s o = octets-take (f .size - f .from) (drop (f .from) s) (octets-drop (f .from) s o)
 
 module _ (highest : ℕ) (s : List ℕ) (r : Frame × Performative) where
-  -- A frame with a session's performative has 12 bytes at least.
-  pub session-least : sessionFrame highest s ≡ accept r → 12 ≤ r .0 .size
-  session-least e =
-      let w = session-was highest s r e in
-      let p = session-sendable highest s r e .reads in
-      let l = read.performative-lies (bodyIn (r .0) s) (r .1) p in
-      omega (arith, body-length anySize anyChannel s (r .0) (w .0), l .ordered, l .inside, read-was (bodyIn (r .0) s) (r .1) p .after)
-
   -- A session's frame, written out, is at most twice as long as it was lent.
   pub session-short : Octets s → sessionFrame highest s ≡ accept r → length (sessionBytes s r) ≤ 2 * r .0 .size
   unfolding sessionBytes
@@ -440,17 +431,3 @@ module _ (highest : ℕ) (s : List ℕ) (r : Frame × Performative) where
         read.performative-lies (bodyIn (r .0) s) (r .1) p .inside,
         performative-short (bodyIn (r .0) s) (r .1) (body-octets (r .0) s o) p,
       )
-
-  -- A session's frame is read from its own bytes alone.
-  pub session-alone : sessionFrame highest s ≡ accept r → sessionFrame highest (take (r .0 .size) s) ≡ accept r
-  session-alone e = rw append-nil at (session-only highest s r e [])
-
-  -- A session's frame is written from its own bytes alone.
-  pub session-bytes-alone : sessionFrame highest s ≡ accept r → sessionBytes (take (r .0 .size) s) r ≡ sessionBytes s r
-  unfolding sessionBytes bodyIn
-  session-bytes-alone e =
-      let w = session-frame highest s r e in
-      let k : r .0 .from ≡ 8 = ap (λ (x : Frame). x .from) (w .fields) in
-      let h : take (r .0 .size - r .0 .from) (drop (r .0 .from) (take (r .0 .size) s)) ≡ take (r .0 .size - r .0 .from) (drop (r .0 .from) s) =
-      rw append-nil at (part-front (r .0 .size) s [] (w .here) (r .0 .from) (r .0 .size - r .0 .from) (omega (arith, w .header))) in
-      rw h

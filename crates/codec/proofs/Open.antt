@@ -1,4 +1,4 @@
--- An Open that was written is read back with the settings that it was written from.
+-- An Open that was written is read back with the settings that it was written from. The result is `open-read-back`.
 -- Assumes nothing.
 use mathlib.Core.Path.{_≡_, refl, ap, _∙_}
 use mathlib.Core.Bool.{true, false}

@@ -1,4 +1,5 @@
 -- A session's frame that was written out is read back: same channel, same performative, same meaning of every field, same payload; and writing it again changes nothing.
+-- The results are `session-read-back` and `session-passes`.
 -- Assumes nothing.
 use mathlib.Core.Path.{_≡_, refl, sym, ap, _∙_, subst}
 use mathlib.Core.Bool.{Bool, true, false, _&&_, _||_}

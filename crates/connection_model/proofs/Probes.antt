@@ -13,7 +13,7 @@ use Rattle.octets.specs.Verdict.{Verdict, refuse, accept, require, andThen, acc
 use Rattle.octets.specs.Octets.{bytesOf}
 use Rattle.octets.specs.Output.{roomFor}
 use Rattle.octets.proofs.Laws.{require-on, then-accept, then-refuse, length-bytesOf, room-yes}
-use Rattle.protocol_header.specs.Header.{amqp100, isProtocolId, protocolId, startsWith, header, hasId, isAmqp100, protocol, received}
+use Rattle.protocol_header.specs.Header.{amqp100, isProtocolId, protocolId, startsWithAll, header, hasId, isAmqp100, protocol, received}
 use Rattle.performatives.specs.Performative.{Performative}
 use Rattle.frame_decoder.specs.Frame.{Frame, readFrame}
 use Rattle.frame_encoder.specs.Frames.{Settings, frameBytes, limited}
@@ -101,7 +101,7 @@ abbrev pub amqp : List ℕ
 amqp = 0x41 ∷ 0x4D ∷ 0x51 ∷ 0x50 ∷ 0 ∷ 1 ∷ 0 ∷ 0 ∷ []
 
 amqp-received : received amqp ≡ accept amqp100
-unfolding received header require andThen startsWith protocolId isProtocolId protocol isAmqp100 hasId
+unfolding received header require andThen startsWithAll protocolId isProtocolId protocol isAmqp100 hasId
 amqp-received = refl
 
 pub frame-valid : (ch : ℕ) (b : List ℕ) → areBytes b ≡ true → length b < 4294967296 → isValid (receiveFrame (frameBytes ch b) 0) ≡ true

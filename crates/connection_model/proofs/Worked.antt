@@ -9,7 +9,7 @@ use lib.ListN.{replicate}
 use Rattle.octets.specs.Verdict.{Verdict, refuse, accept, require, andThen}
 use Rattle.octets.specs.Octets.{bigEndianFrom, bigEndian, bytesOf, startsWith}
 use Rattle.octets.specs.Output.{roomFor, laid}
-use Rattle.protocol_header.specs.Header.{isProtocolId, protocolId, startsWith as startsWithAll, header as headerOf, hasId, isAmqp100, protocol, received, headerBytes, writeHeader}
+use Rattle.protocol_header.specs.Header.{isProtocolId, protocolId, startsWithAll, header as headerOf, hasId, isAmqp100, protocol, received, headerBytes, writeHeader}
 use Rattle.values.specs.Value.{plus, followedBy, times, codes, kindIn, kindOf, bytes as bytesAt, numberIn, booleanEnd, variableEnd, pairedIn, opening, items, compoundEnd, body, afterCode, level, run as runOf, valueEnd}
 use Rattle.performatives.specs.Fields.{fieldsIn, fieldsOf}
 use Rattle.performatives.specs.Performative.{descriptor, performativeBy, fieldsBy, numberOf, sized, listAt, described, split, errorShape, isError, hasType, fits, fit, rowsFor, performative, numberOr, remoteChannel, startOf, conditionAt, condition, valuesIn, valuesOf}

@@ -11,7 +11,7 @@ use Rattle.octets.specs.Octets.{bigEndianFrom, bigEndian, bytesOf, startsWith}
 use Rattle.octets.specs.Output.{roomFor, laid}
 use Rattle.text.specs.Ascii.{ascii}
 use Rattle.text.specs.Utf8.{characters as utf8Characters, inRange, starts, any, utf8Within, utf8}
-use Rattle.protocol_header.specs.Header.{isProtocolId, protocolId, startsWith as startsWithAll, header as headerOf, hasId, isAmqp100, protocol, received, headerBytes}
+use Rattle.protocol_header.specs.Header.{isProtocolId, protocolId, startsWithAll, header as headerOf, hasId, isAmqp100, protocol, received, headerBytes}
 use Rattle.values.specs.Value.{plus, followedBy, times, codes, kindIn, kindOf, bytes as bytesAt, numberIn, booleanEnd, variableEnd, pairedIn, opening, items, compoundEnd, body, afterCode, level, run as runOf, valueEnd}
 use Rattle.performatives.specs.Fields.{fieldsIn, fieldsOf}
 use Rattle.performatives.specs.Performative.{descriptor, performativeBy, fieldsBy, numberOf, sized, listAt, described, split, errorShape, isError, hasType, fits, fit, rowsFor, performative, numberOr, remoteChannel, startOf, conditionAt, condition}

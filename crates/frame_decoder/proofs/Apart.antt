@@ -1,4 +1,4 @@
--- What the answers say tells every two answers apart: from what is said the answer is found again.
+-- What the answers say tells every two answers apart: from what is said the answer is found again. Results: `same-frame`, `same-frames`.
 -- Assumes nothing.
 use mathlib.Core.Path.{_≡_, refl, sym, ap, _∙_}
 use mathlib.Core.Bool.{cond}

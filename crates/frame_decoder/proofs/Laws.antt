@@ -1,9 +1,10 @@
--- Laws of frames: what an accepted frame went through, and that only its own bytes decide.
+-- Laws of frames: what an accepted frame went through, and that only its own bytes decide. Results: `read-more` (an answer other than 1 stays as more bytes come),
+-- `read-only` and `session-only` (what stands after a frame is not looked at).
 -- Assumes nothing.
 use mathlib.Core.Path.{_≡_, refl, sym, ap, _∙_}
 use mathlib.Core.Bool.{Bool, true, false, _||_, and-eq-true-iff}
 use mathlib.Core.List.{List, [], _∷_, _++_}
-use mathlib.Core.Option.{Option, none, some}
+use mathlib.Core.Option.{Option}
 use Prim.Native.Nat.{ℕ, zero, suc, _+_, _-_, _<_, _≤_}
 use native.Mathlib.Omega.{arith}
 use lib.ListN.{length, take, drop, getD, length-append, length-drop}
@@ -201,43 +202,6 @@ module _ {A : Type 0} (g : List ℕ → Verdict A) where
         sym (whole-agrees limit highest s (take n s ++ t) n (sym (take-at (take n s) t n k)) (w .header) (omega arith) (w .here) (omega (arith, length-append (take n s) t)))
         ∙ e
 
--- ---- a frame that is refused for its header or its body is there
-
-passed : {A : Type 0} (k j : ℕ) (b : Bool) (rest : Unit {0} → Verdict A) → require k b rest ≡ refuse j → k < j → (b ≡ true) × (rest tt ≡ refuse j)
-unfolding require
-passed k j true rest e h = (refl, e)
-passed k j false rest e h = let q : k ≡ j = cc in absurd (omega arith)
-
-pub record There (limit : ℕ) (s : List ℕ) : Type 0 where
-  pub header : 8 ≤ sizeOf s
-  pub limited : sizeOf s ≤ limit
-  pub here : sizeOf s ≤ length s
-
-refused-there : (limit highest : ℕ) (s : List ℕ) (k : ℕ) → 5 ≤ k → frame limit highest s ≡ refuse k → There limit s
-unfolding frame
-refused-there limit highest s k h e =
-    let a = passed _ _ _ _ e (omega arith) in
-    let b = passed _ _ _ _ (a .1) (omega arith) in
-    let c = passed _ _ _ _ (b .1) (omega arith) in
-    let d = passed _ _ _ _ (c .1) (omega arith) in
-    record { header = leb-true _ _ (b .0); limited = leb-true _ _ (c .0); here = leb-true _ _ (d .0) }
-
-accepted-there : (limit highest : ℕ) (s : List ℕ) (f : Frame) → frame limit highest s ≡ accept f → There limit s
-accepted-there limit highest s f e =
-    let w = frame-was limit highest s f e in
-    let z : sizeOf s ≡ f .size = sym (ap (λ (x : Frame). x .size) (w .fields)) in
-    record { header = omega (arith, w .header); limited = omega (arith, w .limited); here = omega (arith, w .here) }
-
-whole-there : {A : Type 0} (g : List ℕ → Verdict A) (limit highest : ℕ) (s : List ℕ) (k : ℕ) → 5 ≤ k → whole g limit highest s ≡ refuse k → There limit s
-whole-there g limit highest s k h e = go (frame limit highest s) refl
-  where
-    go : (v : Verdict Frame) → frame limit highest s ≡ v → There limit s
-    go (refuse j) q =
-        let t = sym (then-refuse (frame limit highest s) (λ f. held g f s) j q) ∙ e in
-        let r : j ≡ k = cc in
-        refused-there limit highest s k h (q ∙ ap refuse r)
-    go (accept f) q = accepted-there limit highest s f q
-
 -- ---- limits and bodies
 
 -- what passes under some limits passes under higher ones
@@ -274,11 +238,6 @@ module _ (limit highest : ℕ) (s : List ℕ) where
   unfolding readFrame
   read-was r e = whole-was content limit highest s r e
 
-  -- two slices that agree in their first n bytes, among which the frame's are, get the same answer
-  pub read-agrees : (t : List ℕ) (n : ℕ) → take n s ≡ take n t → 8 ≤ n → sizeOf s ≤ n → n ≤ length s → n ≤ length t → readFrame limit highest s ≡ readFrame limit highest t
-  unfolding readFrame
-  read-agrees t n e h z l m = whole-agrees content limit highest s t n e h z l m
-
   -- an answer other than 1 stays as more bytes come
   pub read-more : (readFrame limit highest s ≡ refuse 1 → ⊥) → (t : List ℕ) → readFrame limit highest s ≡ readFrame limit highest (s ++ t)
   unfolding readFrame
@@ -288,23 +247,6 @@ module _ (limit highest : ℕ) (s : List ℕ) where
   pub read-only : (r : Frame × Option Performative) → readFrame limit highest s ≡ accept r → (t : List ℕ) → readFrame limit highest (take (r .0 .size) s ++ t) ≡ accept r
   unfolding readFrame
   read-only r e t = whole-only content limit highest s r e t
-
-  -- a frame that is refused with 5, 6 or 7 is there as a whole
-  pub read-there : (k : ℕ) → 5 ≤ k → readFrame limit highest s ≡ refuse k → There limit s
-  unfolding readFrame
-  read-there k h e = whole-there content limit highest s k h e
-
-content-none : (s : List ℕ) → content s ≡ accept none → length s ≡ 0
-unfolding content
-content-none [] e = refl
-content-none (b ∷ s) e = let a = then-was _ _ _ e in let q : some (a .0) ≡ none = cc in apart (cc)
-
--- an empty frame is a header
-pub empty-is : (limit highest : ℕ) (s : List ℕ) (f : Frame) → readFrame limit highest s ≡ accept (f, none) → f .size ≡ 8
-empty-is limit highest s f e =
-    let a = read-was limit highest s (f, none) e in
-    let w = frame-was limit highest s f (a .0) in
-    omega (arith, w .header, body-length limit highest s f (a .0), content-none _ (a .1))
 
 -- ---- a session's frame that is to be sent
 
@@ -344,21 +286,9 @@ module _ (highest : ℕ) (s : List ℕ) where
   unfolding sessionFrame
   session-was r e = whole-was (sessionPerformative highest) anySize anyChannel s r e
 
-  pub session-agrees : (t : List ℕ) (n : ℕ) → take n s ≡ take n t → 8 ≤ n → sizeOf s ≤ n → n ≤ length s → n ≤ length t → sessionFrame highest s ≡ sessionFrame highest t
-  unfolding sessionFrame
-  session-agrees t n e h z l m = whole-agrees (sessionPerformative highest) anySize anyChannel s t n e h z l m
-
-  pub session-more : (sessionFrame highest s ≡ refuse 1 → ⊥) → (t : List ℕ) → sessionFrame highest s ≡ sessionFrame highest (s ++ t)
-  unfolding sessionFrame
-  session-more n t = whole-more (sessionPerformative highest) anySize anyChannel s n t
-
   pub session-only : (r : Frame × Performative) → sessionFrame highest s ≡ accept r → (t : List ℕ) → sessionFrame highest (take (r .0 .size) s ++ t) ≡ accept r
   unfolding sessionFrame
   session-only r e t = whole-only (sessionPerformative highest) anySize anyChannel s r e t
-
-  pub session-there : (k : ℕ) → 5 ≤ k → sessionFrame highest s ≡ refuse k → There anySize s
-  unfolding sessionFrame
-  session-there k h e = whole-there (sessionPerformative highest) anySize anyChannel s k h e
 
   module _ (r : Frame × Performative) (e : sessionFrame highest s ≡ accept r) where
     pub session-frame : Whole anySize anyChannel s (r .0)
@@ -366,10 +296,6 @@ module _ (highest : ℕ) (s : List ℕ) where
 
     pub session-sendable : Sendable highest (bodyIn (r .0) s) (r .1)
     session-sendable = sendable-was highest (bodyIn (r .0) s) (r .1) (session-was r e .1)
-
-    -- a session's performative: Begin to End
-    pub session-code : (17 ≤ r .1 .code) × (r .1 .code ≤ 23)
-    session-code = (session-sendable .first, session-sendable .last)
 
 -- ---- frames one after the other
 

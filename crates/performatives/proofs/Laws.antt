@@ -1,5 +1,5 @@
--- Laws of the definitions, for the crates above: where a performative lies, with what it is refused, which descriptors there are, that what stands
--- after it is not looked at, and where the condition of an error lies.
+-- Laws of the definitions, for the crates above: where a performative lies, with what it is refused, and which descriptors there are. Results: `performative-local` (what
+-- stands after a performative is not looked at) and `condition-lies` (the condition of an error lies in its performative).
 -- Assumes nothing.
 use mathlib.Core.Path.{_≡_, refl, sym, ap, _∙_, subst}
 use mathlib.Core.Bool.{Bool, true, false, cond}
@@ -16,10 +16,10 @@ use Rattle.values.specs.Value.{valueEnd}
 use Rattle.values.specs.Null.{null, isNull}
 use Rattle.values.proofs.Apart.{accepted, then-was}
 use Rattle.performatives.specs.Fields.{Field, fieldsOf, Error, may, fieldIn, fieldOf, fieldAt}
-use Rattle.performatives.specs.Performative.{Described, described, itemsOf, fieldsBy, rowsFor, Performative, performativeBy, performative, Said, said, performativeSaid, split, isError, hasType, fits, fit, startOf, whenNot, textAt, conditionAt, condition}
+use Rattle.performatives.specs.Performative.{Described, described, itemsOf, fieldsBy, rowsFor, Performative, performativeBy, performative, split, isError, hasType, fits, fit, startOf, whenNot, textAt, conditionAt, condition}
 use Rattle.performatives.specs.Inner.{skip, item, orNull, valueAt, textFrom}
 use Rattle.performatives.proofs.Table.{unknown}
-use Rattle.performatives.proofs.Bounds.{Lies, described-lies, six-then, six-accept}
+use Rattle.performatives.proofs.Bounds.{Lies, described-lies}
 use Rattle.performatives.proofs.Front.{part-front, described-front}
 use Rattle.performatives.proofs.Conditions.{error-text}
 use Rattle.performatives.proofs.Placed.{item-lies, item-whole}
@@ -63,21 +63,6 @@ performative-lies s p e =
 -- what is refused is refused with 6
 pub performative-six : (s : List ℕ) (k : ℕ) → performative s ≡ refuse k → k ≡ 6
 performative-six = bounds.performative-six
-
--- what is said is said of a performative
-pub said-was : (s : List ℕ) (r : Said) → performativeSaid s ≡ accept r → (p : Performative) × (performative s ≡ accept p) × (r ≡ said p)
-unfolding performativeSaid
-said-was s r e = let a = then-was (performative s) _ r e in (a .0, a .1, sym (accepted _ r (a .2)))
-
-pub said-six : (s : List ℕ) (k : ℕ) → performativeSaid s ≡ refuse k → k ≡ 6
-unfolding performativeSaid
-said-six s = six-then (performative s) _ (performative-six s) (λ p. six-accept _)
-
-pub said-lies : (s : List ℕ) (r : Said) → performativeSaid s ≡ accept r → r .end ≤ length s
-said-lies s r e =
-    let a = said-was s r e in
-    let l = performative-lies s (a .0) (a .1) in
-    omega (arith, l .inside, ap (λ (x : Said). x .end) (a .2))
 
 -- its descriptor is one of the nine
 pub performative-code : (s : List ℕ) (p : Performative) → performative s ≡ accept p → (16 ≤ p .code) × (p .code ≤ 24)

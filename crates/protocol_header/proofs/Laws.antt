@@ -1,7 +1,8 @@
--- Laws of protocol headers: reading undoes writing, writing undoes reading, eight bytes decide, and what each answer says of the header.
+-- Laws of protocol headers. Results: `read-written` (what was written is read), `write-read` (what was read is written as it stood), `eight-decide` (what stands after the
+-- eighth byte is not looked at), `same-id` and `same-answer` (no two answers say the same).
 -- Assumes nothing.
 use mathlib.Core.Path.{_≡_, refl, ap, _∙_}
-use mathlib.Core.Bool.{Bool, true, false, _&&_, cond, false≢true, and-eq-true-iff}
+use mathlib.Core.Bool.{Bool, true, false, _&&_, false≢true, and-eq-true-iff}
 use mathlib.Core.List.{List, [], _∷_, _++_}
 use Prim.Native.Nat.{ℕ, zero, suc, _<_, _≤_}
 use native.Mathlib.Omega.{arith}
@@ -9,7 +10,7 @@ use lib.ListN.{length, getD, take, length-append, List·getD-append}
 use lib.Seq.{length-take-le, getD-take, drop-cons, take-add}
 use lib.Dec.{eqb}
 use borrow.Author.Tests.{le-leb, leb-true, eqb-true}
-use Rattle.octets.specs.Verdict.{Verdict, refuse, accept, require, andThen}
+use Rattle.octets.specs.Verdict.{Verdict, accept, require, andThen}
 use Rattle.octets.specs.Output.{roomFor, laid}
 use Rattle.octets.proofs.Laws.{require-was}
 use Rattle.protocol_header.specs.declared.ProtocolHeader.{ProtocolHeader as HeaderStruct}
@@ -19,7 +20,7 @@ use Rattle.protocol_header.specs.declared.IdRead.{IdRead}
 use Rattle.protocol_header.specs.declared.IdRead.the-variants.{Id, Unknown}
 use Rattle.protocol_header.specs.declared.HeaderRead.{HeaderRead}
 use Rattle.protocol_header.specs.declared.HeaderRead.the-variants.{Amqp as Amqp100, Other, Malformed, Missing}
-use Rattle.protocol_header.specs.Header.{ProtocolHeader, prefix, isProtocolId, protocolId, startsWith, header, version100, hasId, isAmqp100, amqp100, other, protocol, received, headerBytes, writeHeader}
+use Rattle.protocol_header.specs.Header.{ProtocolHeader, prefix, isProtocolId, protocolId, startsWithAll, header, headerBytes, writeHeader}
 use Rattle.protocol_header.specs.Answers.{idNumber, headerOf, idSays, headerSays}
 
 apart : {A : Type 0} → _≡_ {A = ℕ} 0 1 → A
@@ -28,7 +29,7 @@ apart z = absurd (omega arith)
 -- ---- what was written is read
 
 pub read-bytes : (h : ProtocolHeader) (t : List ℕ) → isProtocolId (h .id) ≡ true → header (headerBytes h ++ t) ≡ accept h
-unfolding header headerBytes startsWith protocolId require andThen
+unfolding header headerBytes startsWithAll protocolId require andThen
 read-bytes h t e = rw (le-leb 8 (length (headerBytes h ++ t)) (omega arith), e)
 
 pub number-is-id : (id : ProtocolId) → isProtocolId (idNumber id) ≡ true
@@ -48,8 +49,8 @@ read-written h out e = rw e (read-back h _)
 
 -- ---- the first eight bytes decide
 
-starts-take : (p s t : List ℕ) (n : ℕ) → length p ≤ n → n ≤ length s → startsWith p (take n s ++ t) ≡ startsWith p s
-unfolding startsWith
+starts-take : (p s t : List ℕ) (n : ℕ) → length p ≤ n → n ≤ length s → startsWithAll p (take n s ++ t) ≡ startsWithAll p s
+unfolding startsWithAll
 starts-take [] s t n h l = refl
 starts-take (b ∷ p) [] t n h l = absurd (omega arith)
 starts-take (b ∷ p) (x ∷ s) t zero h l = absurd (omega arith)
@@ -77,11 +78,11 @@ eight-decide s t l =
 and-was : (a b : Bool) → a && b ≡ true → (a ≡ true) × (b ≡ true)
 and-was a b e = and-eq-true-iff a b .0 e
 
-starts-was : (p s : List ℕ) → startsWith p s ≡ true → take (length p) s ≡ p
-unfolding startsWith
+starts-was : (p s : List ℕ) → startsWithAll p s ≡ true → take (length p) s ≡ p
+unfolding startsWithAll
 starts-was [] s e = refl
 starts-was (b ∷ p) [] e = absurd (false≢true e)
-starts-was (b ∷ p) (x ∷ s) e = let q : (eqb x b ≡ true) × (startsWith p s ≡ true) = and-was _ _ e in rw (eqb-true x b (q .0), starts-was p s (q .1))
+starts-was (b ∷ p) (x ∷ s) e = let q : (eqb x b ≡ true) × (startsWithAll p s ≡ true) = and-was _ _ e in rw (eqb-true x b (q .0), starts-was p s (q .1))
 
 take-eight : (s : List ℕ) → 8 ≤ length s → take 8 s ≡ take 4 s ++ getD s 4 0 ∷ getD s 5 0 ∷ getD s 6 0 ∷ getD s 7 0 ∷ []
 take-eight s l =
@@ -117,57 +118,6 @@ header-was s h e =
 pub write-read : (s : List ℕ) (h : ProtocolHeader) → header s ≡ accept h → headerBytes h ≡ take 8 s
 unfolding headerBytes
 write-read s h e = let w = header-was s h e in rw (take-eight s (w .whole), w .starts, w .fields)
-
--- ---- what an answer says of the header
-
-of-fields : {id major minor revision : ℕ} → id ≡ 0 → major ≡ 1 → minor ≡ 0 → revision ≡ 0 → _≡_ {A = ProtocolHeader} (record { id = id; major = major; minor = minor; revision = revision }) (version100 0)
-of-fields a b c d = rw (a, b, c, d)
-
-pub amqp100-is : (h : ProtocolHeader) → isAmqp100 h ≡ true → h ≡ version100 0
-unfolding isAmqp100 hasId
-amqp100-is h e =
-    let a = and-was _ _ e in
-    let b = and-was _ _ (a .0) in
-    let d = and-was _ _ (b .0) in
-    of-fields (eqb-true _ _ (d .0)) (eqb-true _ _ (d .1)) (eqb-true _ _ (b .1)) (eqb-true _ _ (a .1))
-
-module _ (h : ProtocolHeader) where
-  was-amqp100 : (b : Bool) → cond b amqp100 (other h) ≡ amqp100 → b ≡ true
-  was-amqp100 true e = refl
-  was-amqp100 false e = apart (cc)
-
-  was-other : (b : Bool) (x : ProtocolHeader) → cond b amqp100 (other h) ≡ other x → (h ≡ x) × (b ≡ false)
-  was-other true x e = apart (cc)
-  was-other false x e = (cc, refl)
-
-amqp100-of : (v : Verdict ProtocolHeader) → andThen v (λ h. accept (protocol h)) ≡ accept amqp100 → v ≡ accept (version100 0)
-unfolding andThen protocol
-amqp100-of (refuse k) e = apart (cc)
-amqp100-of (accept h) e = ap accept (amqp100-is h (was-amqp100 h (isAmqp100 h) (cc)))
-
-other-of : (v : Verdict ProtocolHeader) (x : ProtocolHeader) → andThen v (λ h. accept (protocol h)) ≡ accept (other x) → (v ≡ accept x) × (isAmqp100 x ≡ false)
-unfolding andThen protocol
-other-of (refuse k) x e = apart (cc)
-other-of (accept h) x e = let w = was-other h (isAmqp100 h) x (cc) in (ap accept (w .0), rw (w .0) at (w .1))
-
-refuse-of : (v : Verdict ProtocolHeader) (k : ℕ) → andThen v (λ h. accept (protocol h)) ≡ refuse k → v ≡ refuse k
-unfolding andThen
-refuse-of (refuse j) k e = cc
-refuse-of (accept h) k e = apart (cc)
-
-module _ (s : List ℕ) where
-  pub received-amqp100 : received s ≡ accept amqp100 → header s ≡ accept (version100 0)
-  unfolding received
-  received-amqp100 e = amqp100-of (header s) e
-
-  -- what is answered "other protocol" is never AMQP 1.0.0
-  pub received-other : (h : ProtocolHeader) → received s ≡ accept (other h) → (header s ≡ accept h) × (isAmqp100 h ≡ false)
-  unfolding received
-  received-other h e = other-of (header s) h e
-
-  pub received-refuse : (k : ℕ) → received s ≡ refuse k → header s ≡ refuse k
-  unfolding received
-  received-refuse k e = refuse-of (header s) k e
 
 -- ---- the definitions tell every two values apart
 

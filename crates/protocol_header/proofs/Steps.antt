@@ -21,7 +21,7 @@ use Rattle.protocol_header.specs.declared.ProtocolId.the-variants.{Amqp 
 use Rattle.protocol_header.specs.declared.IdRead.{IdRead}
 use Rattle.protocol_header.specs.declared.IdRead.the-variants.{Id, Unknown}
 use Rattle.protocol_header.specs.declared.HeaderRead.the-variants.{Amqp, Other, Malformed, Missing}
-use Rattle.protocol_header.specs.Header.{ProtocolHeader, prefix, isProtocolId, protocolId, startsWith, header, hasId, isAmqp100, protocol, received, headerBytes, writeHeader}
+use Rattle.protocol_header.specs.Header.{ProtocolHeader, prefix, isProtocolId, protocolId, startsWithAll, header, hasId, isAmqp100, protocol, received, headerBytes, writeHeader}
 use Rattle.protocol_header.specs.Answers.{idNumber, headerOf, idSays, headerSays}
 
 -- ---- id_from
@@ -74,32 +74,32 @@ pub bytes-are : (h : HeaderStruct) (n : ℕ) → n ≡ idNumber (h .id) → 65 �
 unfolding headerBytes
 bytes-are h n e = rw e
 
--- ---- starts_with
+-- ---- starts_with_all
 
 not-both : (a : Bool) {b : Bool} → false ≡ b → false ≡ a && b
 not-both true e = e
 not-both false e = refl
 
-pub starts-short : (p s : List ℕ) → length s < length p → false ≡ startsWith p s
-unfolding startsWith
+pub starts-short : (p s : List ℕ) → length s < length p → false ≡ startsWithAll p s
+unfolding startsWithAll
 starts-short [] s h = absurd (omega arith)
 starts-short (b ∷ p) [] h = refl
 starts-short (b ∷ p) (x ∷ s) h = not-both (eqb x b) (starts-short p s (omega arith))
 
-module _ (p s : List ℕ) (i : ℕ) (e : startsWith p s ≡ startsWith (drop i p) (drop i s)) where
-  pub starts-all : length p ≤ i → true ≡ startsWith p s
-  unfolding startsWith
+module _ (p s : List ℕ) (i : ℕ) (e : startsWithAll p s ≡ startsWithAll (drop i p) (drop i s)) where
+  pub starts-all : length p ≤ i → true ≡ startsWithAll p s
+  unfolding startsWithAll
   starts-all h = sym (e ∙ rw (drop-of-length-le p h))
 
   module _ (h : i < length p) (l : length p ≤ length s) where
-    step : startsWith p s ≡ eqb (getD s i 0) (getD p i 0) && startsWith (drop (i + 1) p) (drop (i + 1) s)
-    unfolding startsWith
+    step : startsWithAll p s ≡ eqb (getD s i 0) (getD p i 0) && startsWithAll (drop (i + 1) p) (drop (i + 1) s)
+    unfolding startsWithAll
     step = e ∙ rw (drop-cons p i 0 h, drop-cons s i 0 (omega arith), add-one)
 
-    pub starts-not : (getD s i 0 ≡ getD p i 0 → ⊥) → false ≡ startsWith p s
+    pub starts-not : (getD s i 0 ≡ getD p i 0 → ⊥) → false ≡ startsWithAll p s
     starts-not n = sym (step ∙ rw (ne-eqb _ _ n))
 
-    pub starts-more : getD s i 0 ≡ getD p i 0 → startsWith p s ≡ startsWith (drop (i + 1) p) (drop (i + 1) s)
+    pub starts-more : getD s i 0 ≡ getD p i 0 → startsWithAll p s ≡ startsWithAll (drop (i + 1) p) (drop (i + 1) s)
     starts-more q = step ∙ rw (eq-eqb _ _ q)
 
 -- ---- read
@@ -109,7 +109,7 @@ module _ (s : List ℕ) where
   unfolding headerSays received header andThen require
   read-missing h = rw (lt-leb _ _ h)
 
-  module _ (h : 8 ≤ length s) (b : Bool) (e : b ≡ startsWith prefix s) where
+  module _ (h : 8 ≤ length s) (b : Bool) (e : b ≡ startsWithAll prefix s) where
     pub read-no-prefix : b ≡ false → headerSays Malformed ≡ received s
     unfolding headerSays received header andThen require
     read-no-prefix n = rw (le-leb _ _ h, ← e, n)

@@ -26,16 +26,17 @@ isProtocolId n = eqb n 0 || eqb n 2 || eqb n 3
 unfoldable pub protocolId : ℕ → Verdict ℕ
 protocolId n = require 2 (isProtocolId n) (λ _. accept n)
 
-unfoldable pub startsWith : List ℕ → List ℕ → Bool
-startsWith [] s = true
-startsWith (b ∷ p) [] = false
-startsWith (b ∷ p) (x ∷ s) = eqb x b && startsWith p s
+-- whether s starts with all of these bytes
+unfoldable pub startsWithAll : List ℕ → List ℕ → Bool
+startsWithAll [] s = true
+startsWithAll (b ∷ p) [] = false
+startsWithAll (b ∷ p) (x ∷ s) = eqb x b && startsWithAll p s
 
 -- the header that the bytes of s start with: 1 under eight bytes, 2 where it is malformed. What stands after the eighth byte is not looked at
 unfoldable pub header : List ℕ → Verdict ProtocolHeader
 header s =
     require 1 (leb 8 (length s)) (λ _.
-    require 2 (startsWith prefix s) (λ _.
+    require 2 (startsWithAll prefix s) (λ _.
     andThen (protocolId (getD s 4 0)) (λ id.
     accept (record { id = id; major = getD s 5 0; minor = getD s 6 0; revision = getD s 7 0 }))))
 

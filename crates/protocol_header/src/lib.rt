@@ -2,7 +2,7 @@
 use octets::Written;
 ghost use mathlib.Core.Path.{_≡_};
 ghost use Rattle.octets.specs.Output.{Wrote};
-ghost use Rattle.protocol_header.specs.Header.{protocolId, startsWith, isAmqp100, received, version100, hasId, headerBytes, writeHeader};
+ghost use Rattle.protocol_header.specs.Header.{protocolId, startsWithAll, isAmqp100, received, version100, hasId, headerBytes, writeHeader};
 ghost use Rattle.protocol_header.specs.Answers.{idNumber, headerOf, idSays, headerSays};
 
 // "AMQP"
@@ -170,8 +170,8 @@ impl ProtocolHeader {
 }
 
 // Whether the bytes of s start with those of p.
-fn starts_with(s: &[u8], p: &[u8]) -> bool
-    ensures { λ r. ⌜ r ≡ startsWith (now (p .entry)) (now (s .entry)) ⌝ }
+fn starts_with_all(s: &[u8], p: &[u8]) -> bool
+    ensures { λ r. ⌜ r ≡ startsWithAll (now (p .entry)) (now (s .entry)) ⌝ }
 {
     if s.len() < p.len() {
         return false;
@@ -193,7 +193,7 @@ pub fn read(s: &[u8]) -> HeaderRead
     if s.len() < 8 {
         return HeaderRead::Missing;
     }
-    if !starts_with(s, &PROTOCOL_HEADER_PREFIX) {
+    if !starts_with_all(s, &PROTOCOL_HEADER_PREFIX) {
         return HeaderRead::Malformed;
     }
     let IdRead::Id(id) = id_from(s[4]) else {

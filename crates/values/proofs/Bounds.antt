@@ -9,7 +9,7 @@ use lib.ListN.{length, take, drop, length-take, length-drop}
 use lib.Dec.{leb, eqb}
 use borrow.Author.Tests.{leb-true}
 use Rattle.octets.specs.Verdict.{Verdict, refuse, accept, require, andThen}
-use Rattle.values.specs.Value.{Reader, Shape, list, map, array, Kind, fixed, boolean, variable, compound, kindIn, kindOf, codes, plus, followedBy, times, bytes, numberIn, booleanEnd, variableEnd, pairedIn, opening, items, compoundEnd, body, afterCode, level, nowhere, run}
+use Rattle.values.specs.Value.{Reader, Shape, list, map, array, Kind, fixed, boolean, variable, compound, kindIn, kindOf, codes, plus, followedBy, times, bytes, numberIn, booleanEnd, variableEnd, pairedIn, opening, items, compoundEnd, body, afterCode, level, noValues, run}
 
 -- ---- what is accepted, and that all refusals are 6
 
@@ -127,7 +127,7 @@ module _ (r : ℕ → Reader) (h : (n : ℕ) (s : List ℕ) → Within (length s
 
 pub within-run : (d count : ℕ) (s : List ℕ) → Within (length s) (run d count s)
 unfolding run
-within-run zero zero s = within-level nowhere (λ count t. refl) 0 s
+within-run zero zero s = within-level noValues (λ count t. refl) 0 s
 within-run zero (suc k) s = refl
 within-run (suc d) count s = within-level (run d) (within-run d) count s
 

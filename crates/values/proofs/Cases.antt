@@ -13,7 +13,7 @@ use lib.Dec.{leb, eqb}
 use borrow.Author.Tests.{le-leb, lt-leb, eq-eqb, ne-eqb, eqb-true, leb-true, leb-false}
 use Rattle.octets.specs.Verdict.{Verdict, refuse, accept, andThen}
 use Rattle.octets.proofs.Laws.{require-on, require-off}
-use Rattle.values.specs.Value.{Reader, Kind, plus, followedBy, times, bytes, booleanEnd, afterCode, level, nowhere, run, codes, kindIn, kindOf, body}
+use Rattle.values.specs.Value.{Reader, Kind, plus, followedBy, times, bytes, booleanEnd, afterCode, level, noValues, run, codes, kindIn, kindOf, body}
 
 -- a part to the end
 pub tail : (s : List ℕ) (a : ℕ) → take (length s - a) (drop a s) ≡ drop a s
@@ -142,10 +142,10 @@ run-alone (suc k) s hc hs = absurd (omega arith)
 run-alone zero [] hc hs = absurd (hs refl)
 run-alone zero (c ∷ s) hc hs = go (eqb c 0) refl
   where
-    one : (v : Verdict Kind) → plus 1 (andThen v (λ k. times 0 (body nowhere k) s)) ≡ andThen v (λ k. accept 1)
+    one : (v : Verdict Kind) → plus 1 (andThen v (λ k. times 0 (body noValues k) s)) ≡ andThen v (λ k. accept 1)
     one (accept k) = refl
     one (refuse j) = refl
 
-    go : (b : Bool) → eqb c 0 ≡ b → plus 1 (afterCode nowhere 0 b c s) ≡ andThen (kindOf c) (λ k. accept 1)
+    go : (b : Bool) → eqb c 0 ≡ b → plus 1 (afterCode noValues 0 b c s) ≡ andThen (kindOf c) (λ k. accept 1)
     go true q = rw (eqb-true c 0 q)
     go false q = one (kindOf c)

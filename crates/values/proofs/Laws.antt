@@ -1,9 +1,8 @@
--- Laws of runs and values, for the crates above: what a reader accepts does not depend on what stands after it, lies within the bytes, starts with a known code, and
--- is accepted with a level more; what it refuses it refuses with 6.
+-- Laws of runs and values, for the crates above: what a reader accepts does not depend on what stands after it, lies within the bytes, and is accepted with a level
+-- more; what it refuses it refuses with 6.
 -- Assumes nothing.
 use mathlib.Core.Path.{_≡_, refl, sym, ap, _∙_, subst}
 use mathlib.Core.Bool.{Bool, true, false}
-use mathlib.Core.Logic.{_⊎_, inl, inr}
 use mathlib.Core.List.{List, [], _∷_, _++_, append-assoc}
 use Prim.Native.Nat.{ℕ, zero, suc, _+_, _-_, _≤_}
 use native.Mathlib.Nat.{add-zero}
@@ -11,11 +10,11 @@ use native.Mathlib.Omega.{arith}
 use lib.ListN.{length, take, drop, length-append, length-drop, take-append-drop}
 use lib.Seq.{length-take-le, take-add, take-append-le, drop-append-le, drop-at}
 use lib.Dec.{leb, eqb}
-use borrow.Author.Tests.{eqb-true, ne-eqb}
+use borrow.Author.Tests.{ne-eqb}
 use Rattle.octets.specs.Verdict.{Verdict, refuse, accept, andThen}
 use Rattle.octets.specs.Octets.{bigEndian}
 use Rattle.octets.proofs.Laws.{require-was, then-accept}
-use Rattle.values.specs.Value.{Reader, Shape, list, map, array, Kind, fixed, boolean, variable, compound, codes, kindIn, kindOf, plus, followedBy, times, bytes, numberIn, booleanEnd, variableEnd, items, compoundEnd, body, afterCode, level, nowhere, run, valueEnd}
+use Rattle.values.specs.Value.{Reader, Shape, list, map, array, Kind, fixed, boolean, variable, compound, codes, kindIn, kindOf, plus, followedBy, times, bytes, numberIn, booleanEnd, variableEnd, items, compoundEnd, body, afterCode, level, noValues, run, valueEnd}
 use Rattle.values.proofs.Cases.{bytes-yes}
 use Rattle.values.proofs.Apart.{never, accepted, then-was, plus-was, plus-is, both-was, both-is, bytes-was, number-was, number-is, compound-was, compound-is}
 use Rattle.values.proofs.Bounds.{Within, holds-accept, holds-refuse, within-body, within-run}
@@ -123,7 +122,7 @@ module _ (r : ℕ → Reader) (bound : (n : ℕ) (s : List ℕ) → Within (leng
 
 pub run-local : (d count : ℕ) (s : List ℕ) (n : ℕ) → run d count s ≡ accept n → (t : List ℕ) → run d count (take n s ++ t) ≡ accept n
 unfolding run
-run-local zero zero s n e t = local-level nowhere (λ count u. refl) (λ count u m q v. absurd (never 6 m q)) 0 s n e t
+run-local zero zero s n e t = local-level noValues (λ count u. refl) (λ count u m q v. absurd (never 6 m q)) 0 s n e t
 run-local zero (suc k) s n e t = absurd (never 6 n e)
 run-local (suc d) count s n e t = local-level (run d) (within-run d) (run-local d) count s n e t
 
@@ -136,20 +135,16 @@ value-local d s n e t = run-local d 1 s n e t
 pub run-within : (d count : ℕ) (s : List ℕ) (n : ℕ) → run d count s ≡ accept n → n ≤ length s
 run-within d count s n e = holds-accept (λ (m : ℕ). m ≤ length s) (run d count s) n (within-run d count s) e
 
--- what is accepted stands at a level
-run-level : (d count : ℕ) (s : List ℕ) (n : ℕ) → run d count s ≡ accept n → (r : ℕ → Reader) × (level r count s ≡ accept n)
-unfolding run
-run-level zero zero s n e = (nowhere, e)
-run-level zero (suc k) s n e = absurd (never 6 n e)
-run-level (suc d) count s n e = (run d, e)
-
 level-some : (r : ℕ → Reader) (count : ℕ) (s : List ℕ) (n : ℕ) → level r count s ≡ accept n → 1 ≤ n
 unfolding level
 level-some r count [] n e = absurd (never 6 n e)
 level-some r count (c ∷ s) n e = let p = plus-was 1 (afterCode r count (eqb c 0) c s) n e in omega (arith, p .2)
 
 pub run-some : (d count : ℕ) (s : List ℕ) (n : ℕ) → run d count s ≡ accept n → 1 ≤ n
-run-some d count s n e = let l = run-level d count s n e in level-some (l .0) count s n (l .1)
+unfolding run
+run-some zero zero s n e = level-some noValues 0 s n e
+run-some zero (suc k) s n e = absurd (never 6 n e)
+run-some (suc d) count s n e = level-some (run d) count s n e
 
 pub run-six : (d count : ℕ) (s : List ℕ) (k : ℕ) → run d count s ≡ refuse k → k ≡ 6
 run-six d count s k e = holds-refuse (λ (m : ℕ). m ≤ length s) (run d count s) k (within-run d count s) e
@@ -213,7 +208,7 @@ module _ (r r′ : ℕ → Reader) (h : (n : ℕ) → More (r n) (r′ n)) where
 
 pub run-deeper : (d count : ℕ) (s : List ℕ) (n : ℕ) → run d count s ≡ accept n → run (suc d) count s ≡ accept n
 unfolding run
-run-deeper zero zero s n e = more-level nowhere (run 0) (λ count t m q. absurd (never 6 m q)) 0 s n e
+run-deeper zero zero s n e = more-level noValues (run 0) (λ count t m q. absurd (never 6 m q)) 0 s n e
 run-deeper zero (suc k) s n e = absurd (never 6 n e)
 run-deeper (suc d) count s n e = more-level (run d) (run (suc d)) (run-deeper d) count s n e
 
@@ -221,24 +216,7 @@ pub value-deeper : (d : ℕ) (s : List ℕ) (n : ℕ) → valueEnd d s ≡ accep
 unfolding valueEnd
 value-deeper d s n e = run-deeper d 1 s n e
 
--- ---- the first byte
-
-after-code : (r : ℕ → Reader) (count c : ℕ) (s : List ℕ) (n : ℕ) (b : Bool) → eqb c 0 ≡ b → afterCode r count b c s ≡ accept n → (c ≡ 0) ⊎ ((k : Kind) × (kindOf c ≡ accept k))
-unfolding afterCode
-after-code r count c s n true q e = inl (eqb-true _ _ q)
-after-code r count c s n false q e = let a = then-was (kindOf c) _ n e in inr (a .0, a .1)
-
--- it is 00 or a code of section 1.6
-pub run-code : (d count c : ℕ) (s : List ℕ) (n : ℕ) → run d count (c ∷ s) ≡ accept n → (c ≡ 0) ⊎ ((k : Kind) × (kindOf c ≡ accept k))
-unfolding level
-run-code d count c s n e =
-    let l = run-level d count (c ∷ s) n e in
-    let p = plus-was 1 (afterCode (l .0) count (eqb c 0) c s) n (l .1) in
-    after-code (l .0) count c s (p .0) (eqb c 0) refl (p .1)
-
-pub value-code : (d c : ℕ) (s : List ℕ) (n : ℕ) → valueEnd d (c ∷ s) ≡ accept n → (c ≡ 0) ⊎ ((k : Kind) × (kindOf c ≡ accept k))
-unfolding valueEnd
-value-code d c s n e = run-code d 1 c s n e
+-- ---- a value by its first byte
 
 code-not-zero : (c : ℕ) (k : Kind) → kindOf c ≡ accept k → c ≡ 0 → ⊥
 unfolding kindOf kindIn codes

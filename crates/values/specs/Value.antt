@@ -154,14 +154,14 @@ unfoldable pub level : (ℕ → Reader) → ℕ → Reader
 level r count [] = refuse 6
 level r count (c ∷ s) = plus 1 (afterCode r count (eqb c 0) c s)
 
--- where nothing may stand
-abbrev pub nowhere : ℕ → Reader
-nowhere count s = refuse 6
+-- the rule where no value may stand
+abbrev pub noValues : ℕ → Reader
+noValues count s = refuse 6
 
 -- a run of count bodies that stands at the first of d levels. Where no level is left no value may stand, neither a body nor, deeper yet, one that describes.
 -- The format code of an array of no elements is no value, and may
 unfoldable pub run : ℕ → ℕ → Reader
-run zero zero s = level nowhere 0 s
+run zero zero s = level noValues 0 s
 run zero (suc k) s = refuse 6
 run (suc d) count s = level (run d) count s
 

@@ -12,7 +12,7 @@ use lib.Seq.{drop-cons, drop-drop, take-all, take-nil, getD-take, paste, paste-z
 use lib.Dec.{eqb}
 use borrow.Author.Tests.{lt-ltb, le-ltb, eq-eqb, ne-eqb}
 use Rattle.octets.proofs.Steps.{copy-more, copy-done}
-use Rattle.words.specs.Words.{partIn, until, placeFrom, is, isNot, blank, unblanked, wordIn, digitOf, decimalFrom, byteOf, hexIn, hexFor, Spelled}
+use Rattle.words.specs.Words.{partIn, until, placeFrom, isByte, otherThan, blank, unblanked, wordIn, digitOf, decimalFrom, byteOf, hexIn, hexFor, Spelled}
 
 pub until-le : (t : ℕ → Bool) (s : List ℕ) → until t s ≤ length s
 unfolding until
@@ -64,13 +64,13 @@ module _ (from end : ℕ) (s : List ℕ) where
 
 -- ---- words
 
-module _ (s : List ℕ) (at from next : ℕ) (p : from ≡ placeFrom (isNot blank) at s) (q : next ≡ placeFrom (is blank) from s) where
+module _ (s : List ℕ) (at from next : ℕ) (p : from ≡ placeFrom (otherThan blank) at s) (q : next ≡ placeFrom (isByte blank) from s) where
   start : drop from s ≡ unblanked (drop at s)
   unfolding unblanked
   start = rw (p, drop-drop)
 
-  after : drop next s ≡ drop (until (is blank) (unblanked (drop at s))) (unblanked (drop at s))
-  after = rw q (sym (drop-drop (until (is blank) (drop from s)) from s) ∙ ap (λ (x : List ℕ). drop (until (is blank) x) x) start)
+  after : drop next s ≡ drop (until (isByte blank) (unblanked (drop at s))) (unblanked (drop at s))
+  after = rw q (sym (drop-drop (until (isByte blank) (drop from s)) from s) ∙ ap (λ (x : List ℕ). drop (until (isByte blank) x) x) start)
 
   -- a loop that has passed i of n words; X is the word that it looks for
   module _ (n i : ℕ) (X : List ℕ) (inv : X ≡ wordIn (n - i) (drop at s)) where
@@ -84,9 +84,9 @@ module _ (s : List ℕ) (at from next : ℕ) (p : from ≡ placeFrom (isNot blan
     unfolding wordIn partIn
     word-here r h e =
         let k : n - i ≡ 0 = omega arith in
-        let l : next - from ≡ until (is blank) (drop from s) = omega arith in
+        let l : next - from ≡ until (isByte blank) (drop from s) = omega arith in
         let x : X ≡ wordIn 0 (drop at s) = rw k at inv in
-        let y : take (next - from) (drop from s) ≡ wordIn 0 (drop at s) = rw l (ap (λ (u : List ℕ). take (until (is blank) u) u) start) in
+        let y : take (next - from) (drop from s) ≡ wordIn 0 (drop at s) = rw l (ap (λ (u : List ℕ). take (until (isByte blank) u) u) start) in
         e ∙ y ∙ sym x
 
 -- ---- numbers

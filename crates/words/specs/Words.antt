@@ -23,11 +23,11 @@ until t (c ∷ s) = cond (t c) 0 (suc (until t s))
 abbrev pub placeFrom : (ℕ → Bool) → ℕ → List ℕ → ℕ
 placeFrom t from s = from + until t (drop from s)
 
-abbrev pub is : ℕ → ℕ → Bool
-is b c = eqb c b
+abbrev pub isByte : ℕ → ℕ → Bool
+isByte b c = eqb c b
 
-abbrev pub isNot : ℕ → ℕ → Bool
-isNot b c = not (eqb c b)
+abbrev pub otherThan : ℕ → ℕ → Bool
+otherThan b c = not (eqb c b)
 
 -- ---- words
 
@@ -36,12 +36,12 @@ blank = 0x20
 
 -- s without the blanks at its front
 unfoldable pub unblanked : List ℕ → List ℕ
-unblanked s = drop (until (isNot blank) s) s
+unblanked s = drop (until (otherThan blank) s) s
 
 -- the n-th word, counted from 0; blanks stand between words
 unfoldable pub wordIn : ℕ → List ℕ → List ℕ
-wordIn zero s = take (until (is blank) (unblanked s)) (unblanked s)
-wordIn (suc n) s = wordIn n (drop (until (is blank) (unblanked s)) (unblanked s))
+wordIn zero s = take (until (isByte blank) (unblanked s)) (unblanked s)
+wordIn (suc n) s = wordIn n (drop (until (isByte blank) (unblanked s)) (unblanked s))
 
 -- ---- digits
 
@@ -51,7 +51,7 @@ digits = 0x30 ∷ 0x31 ∷ 0x32 ∷ 0x33 ∷ 0x34 ∷ 0x35 ∷ 0x36 ∷ 0x37 ∷
 
 -- a digit stands for its place among these; 16 where it is none of them
 unfoldable pub digitOf : ℕ → ℕ
-digitOf b = until (is b) digits
+digitOf b = until (isByte b) digits
 
 -- a number after which the decimal digits at the front of s are read, until it has nineteen
 unfoldable pub decimalFrom : ℕ → List ℕ → ℕ

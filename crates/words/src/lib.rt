@@ -3,8 +3,8 @@ ghost use mathlib.Core.Path.{_≡_};
 ghost use Rattle.words.specs.Words.{
   partIn,
   placeFrom,
-  is,
-  isNot,
+  isByte,
+  otherThan,
   wordIn,
   digitOf,
   decimalIn,
@@ -30,7 +30,7 @@ pub fn part(s: &[u8], from: usize, end: usize) -> &[u8]
 
 // The first place from `from` on where s has the byte b; the end where there is none.
 pub fn find(s: &[u8], from: usize, b: u8) -> usize
-    ensures { λ r. ⌜ r ≡ placeFrom (is b) from (now (s .entry)) ⌝ }
+    ensures { λ r. ⌜ r ≡ placeFrom (isByte b) from (now (s .entry)) ⌝ }
 {
     let mut i = from;
     while i < s.len() {
@@ -44,7 +44,7 @@ pub fn find(s: &[u8], from: usize, b: u8) -> usize
 
 // The first place from `from` on where s has a byte other than b; the end where there is none.
 pub fn skip(s: &[u8], from: usize, b: u8) -> usize
-    ensures { λ r. ⌜ r ≡ placeFrom (isNot b) from (now (s .entry)) ⌝ }
+    ensures { λ r. ⌜ r ≡ placeFrom (otherThan b) from (now (s .entry)) ⌝ }
 {
     let mut i = from;
     while i < s.len() {

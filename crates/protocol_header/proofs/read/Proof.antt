@@ -11,11 +11,11 @@ ruleset steps = (read-no-prefix, read-no-id, read-amqp, read-other, not-true, no
 returns : tie.Need-returns
 returns c = read-missing _ (omega arith)
 
-slice-aggregate-starts-with : tie.Need-slice-aggregate-starts-with
-slice-aggregate-starts-with c = search needs
+slice-aggregate-starts-with-all : tie.Need-slice-aggregate-starts-with-all
+slice-aggregate-starts-with-all c = search needs
 
-starts-with-requires : tie.Need-starts-with-requires
-starts-with-requires c κs = search needs
+starts-with-all-requires : tie.Need-starts-with-all-requires
+starts-with-all-requires c κs = search needs
 
 returns-2 : tie.Need-returns-2
 returns-2 c = search steps
@@ -61,8 +61,8 @@ read-spec =
     tie.close
     (tie.spec
     returns
-    slice-aggregate-starts-with
-    starts-with-requires
+    slice-aggregate-starts-with-all
+    starts-with-all-requires
     returns-2
     shared-slice-read-id-from
     id-from-requires

@@ -2,7 +2,7 @@
 -- Assumes nothing.
 use native.Mathlib.Omega.{arith}
 use borrow.Author.Needs.{needs}
-use Rattle.words.specs.Words.{is, digits, digitOf}
+use Rattle.words.specs.Words.{isByte, digits, digitOf}
 use Rattle.words.proofs.Laws.{until-le}
 use Rattle.words.proofs.digit.Statement.{statement}
 use Rattle.words.proofs.digit.Tie as tie
@@ -14,7 +14,7 @@ find-requires : tie.Need-find-requires
 find-requires c κs = search needs
 
 cast-result : tie.Need-cast-result
-cast-result c = omega (arith, until-le (is (c .before .before .args .b)) digits)
+cast-result c = omega (arith, until-le (isByte (c .before .before .args .b)) digits)
 
 returns : tie.Need-returns
 unfolding digitOf

@@ -5,7 +5,7 @@ use Prim.Native.Nat.{_-_}
 use lib.ListN.{length}
 use borrow.Author.Needs.{needs}
 use borrow.Author.Tests.{eq-eqb, ne-eqb}
-use Rattle.words.specs.Words.{placeFrom, is}
+use Rattle.words.specs.Words.{placeFrom, isByte}
 use Rattle.words.proofs.Laws.{place-here, place-next, place-end}
 use Rattle.words.proofs.find.Statement.{statement}
 use Rattle.words.proofs.find.Tie as tie
@@ -13,7 +13,7 @@ use Rattle.words.proofs.find.Tie as tie
 ruleset steps = (place-here, place-next, place-end, eq-eqb, ne-eqb, needs)
 
 abbrev Inv-loop : tie.InvT-loop
-Inv-loop s from b i₀ i = placeFrom (is b) from s ≡ placeFrom (is b) i s
+Inv-loop s from b i₀ i = placeFrom (isByte b) from s ≡ placeFrom (isByte b) i s
 
 abbrev μ-loop : tie.MeasureT-loop
 μ-loop s from b i₀ i = length s - i

@@ -4,7 +4,7 @@ use mathlib.Core.Path.{_≡_, refl}
 use Prim.Native.Nat.{_-_}
 use lib.ListN.{length}
 use borrow.Author.Needs.{needs}
-use Rattle.words.specs.Words.{placeFrom, isNot}
+use Rattle.words.specs.Words.{placeFrom, otherThan}
 use Rattle.words.proofs.Laws.{place-here, place-next, place-end, not-eq, not-ne}
 use Rattle.words.proofs.skip.Statement.{statement}
 use Rattle.words.proofs.skip.Tie as tie
@@ -12,7 +12,7 @@ use Rattle.words.proofs.skip.Tie as tie
 ruleset steps = (place-here, place-next, place-end, not-eq, not-ne, needs)
 
 abbrev Inv-loop : tie.InvT-loop
-Inv-loop s from b i₀ i = placeFrom (isNot b) from s ≡ placeFrom (isNot b) i s
+Inv-loop s from b i₀ i = placeFrom (otherThan b) from s ≡ placeFrom (otherThan b) i s
 
 abbrev μ-loop : tie.MeasureT-loop
 μ-loop s from b i₀ i = length s - i

@@ -1,17 +1,17 @@
--- `protocol_header::starts_with` meets its contract. The loop's invariant: what is left of the two decides.
+-- `protocol_header::starts_with_all` meets its contract. The loop's invariant: what is left of the two decides.
 use mathlib.Core.Path.{_≡_}
 use Prim.Native.Nat.{_-_, _≤_}
 use lib.ListN.{length, drop}
 use borrow.Author.Needs.{needs}
-use Rattle.protocol_header.specs.Header.{startsWith}
+use Rattle.protocol_header.specs.Header.{startsWithAll}
 use Rattle.protocol_header.proofs.Steps.{starts-short, starts-all, starts-not, starts-more}
-use Rattle.protocol_header.proofs.starts_with.Statement.{statement}
-use Rattle.protocol_header.proofs.starts_with.Tie as tie
+use Rattle.protocol_header.proofs.starts_with_all.Statement.{statement}
+use Rattle.protocol_header.proofs.starts_with_all.Tie as tie
 
 ruleset steps = (starts-short, starts-all, starts-not, starts-more, needs)
 
 abbrev Inv-loop : tie.InvT-loop
-Inv-loop s p i₀ i = (i ≤ length p) × (startsWith p s ≡ startsWith (drop i p) (drop i s))
+Inv-loop s p i₀ i = (i ≤ length p) × (startsWithAll p s ≡ startsWithAll (drop i p) (drop i s))
 
 abbrev μ-loop : tie.MeasureT-loop
 μ-loop s p i₀ i = length p - i
@@ -43,8 +43,8 @@ loop-again c = search steps
 returns-3 : tie.Need-returns-3 Inv-loop μ-loop
 returns-3 c = search steps
 
-pub starts-with-spec : {M : Type 1} → statement M
-starts-with-spec =
+pub starts-with-all-spec : {M : Type 1} → statement M
+starts-with-all-spec =
     tie.close
     (tie.spec
     Inv-loop
