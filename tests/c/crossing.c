@@ -870,7 +870,8 @@ static void closed_cleanly(Tally *t)
 /* A Begin on a channel that is tied replaces the tie; freeing an outgoing channel leaves it. */
 static void tie_replaced(Tally *t)
 {
-    Piece first = hex("00000014 02000005 005311 C00704 600002 434343"), second = hex("00000014 02000005 005311 C00704 600001 434343"), also = begin_for(6, 1), attach = frame(5, ATTACH), end = frame(5, END), begins = begin(0);
+    Piece first = hex("00000014 02000005 005311 C00704 600002 434343"), second = hex("00000014 02000005 005311 C00704 600001 434343");
+    Piece also = begin_for(6, 1), attach = frame(5, ATTACH), end = frame(5, END), begins = begin(0);
     Engine e = wall_opened(t, 4);
     check(t, incoming(&e, of(&first), 0).number == 12 && tied_handle(&e, 5) == 12, "a Begin ties a channel");
     check(t, incoming(&e, of(&second), 0).number == 11 && tied_handle(&e, 5) == 11, "a second one on the same channel ties it to another handle");

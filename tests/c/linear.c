@@ -1,7 +1,7 @@
 /*
  * Frames for a bound on instructions: reading takes some for each byte that is there, and none for what a frame only claims. Usage: linear [slow]
- * A line is printed for each reading: how the frame is read, how many bytes it has, and its name. tests/linear.py runs this under callgrind, which counts inside `measured`.
- * With `slow` each reading also takes a step for each element that the frame claims, at most 100,000 of them: the bound must notice that.
+ * A line is printed for each reading: how the frame is read, how many bytes it has, and its name. tests/linear.py runs this under callgrind, which counts inside
+ * `measured`. With `slow` each reading also takes a step for each element that the frame claims, at most 100,000 of them: the bound must notice that.
  */
 #include "hisproat.h"
 #include "hisproat_frame_reader.h"
