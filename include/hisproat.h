@@ -222,10 +222,10 @@ enum {
     HISPROAT_END = 23
 };
 
-/* ---- Outcomes: how an engine ended, or, while it is awaiting, how it will */
+/* ---- Outcomes: how an engine ended, or, while it is awaiting, how it will. hisproat_on_end_of_input says which one the end of the input leads to. */
 
 enum {
-    HISPROAT_OUTCOME_FINE = 0,                    /* closed by this side, or another protocol; also where the input ends after this side's Close: see hisproat_on_end_of_input */
+    HISPROAT_OUTCOME_FINE = 0,                    /* closed by this side; another protocol; or the input ended after this side's Close */
     HISPROAT_OUTCOME_TRANSPORT_ERROR = 1,         /* a frame that cannot be read or is too long to send, or the input ended too early */
     HISPROAT_OUTCOME_ILLEGAL_STATE = 2,           /* a frame that the state does not allow; or an end or an error before the Opens */
     HISPROAT_OUTCOME_NOT_FOUND = 3,               /* a frame for no session */

@@ -1,6 +1,6 @@
 #!/usr/bin/env bash
-# Tests of the C side: the headers as C and as C++, the example, the tests through C (under valgrind too), the frame reader, and the example hub against its stored output
-# and with damaged pads.
+# Tests of the C side: the headers as C and as C++, the example, the tests through C (under valgrind too), the stack, the frame reader, a bound on the instructions
+# of reading, and the example hub against its stored output and with damaged pads.
 # Usage: tests/c.sh [ARCHIVE]; without ARCHIVE the library is built by rt, with the kit that keeps the module of it for tests/fuzz.sh. Installs gcc, g++ and valgrind where they are missing.
 # The last line is 'c.sh: N parts passed', and the exit status 0, where nothing was wrong.
 set -euo pipefail
@@ -59,6 +59,16 @@ passed "no call uses more stack than the header says: $stack bytes"
 gcc -std=c11 -O2 "${warnings[@]}" tests/c/frame_reader.c "$reader" "$archive" -o "$work/frame_reader"
 "$work/frame_reader"
 passed "the frame reader, beside the engine"
+
+# the bound on instructions, and that it can fail
+gcc -std=c11 -O2 "${warnings[@]}" tests/c/linear.c "$reader" "$archive" -o "$work/linear"
+python3 tests/linear.py "$work/linear"
+if python3 tests/linear.py "$work/linear" slow > "$work/slow.log" 2>&1; then
+    echo "c.sh: the bound does not notice a reader that goes over what is claimed" >&2
+    exit 1
+fi
+grep -q 'are over the bound of' "$work/slow.log"
+passed "reading takes instructions for bytes, and none for claims"
 
 "$work/hub" examples/pads.amqp | diff - examples/hub.out
 valgrind --error-exitcode=1 -q "$work/hub" examples/pads.amqp | diff - examples/hub.out

@@ -468,18 +468,21 @@ static Order any_order(Event event, const Piece *header, const Piece *session_fr
 
 static void every_event(Tally *t)
 {
-    Engine fresh = new_engine(t, 0, p1()), late = awaiting(t), over = stopped(t), broken = new_engine(t, 0, p1());
+    Engine fresh = new_engine(t, 0, p1()), late = awaiting(t), over = stopped(t), broken = new_engine(t, 0, p1()), unsound = new_engine(t, 0, p1());
     Piece header = hex(HEADER), transfer = frame(0, TRANSFER);
     broken.state.at[0] ^= 1;
+    unsound.state.at[6] = HISPROAT_STATE_OPENED; /* and no channel-max is agreed */
     for (int i = 0; i < EVENTS; i++) {
         Order order = any_order((Event)i, &header, &transfer);
         refused(&broken, order, 8, "bytes that are no engine");
+        refused(&unsound, order, 8, "bytes that are no sound engine");
         refused(&over, order, 20, "every event of a stopped engine");
         if (i != ON_INCOMING && i != ON_END_OF_INPUT)
             refused(&late, order, 20, "every other event of an engine that awaits a Close");
         order.answer_short = 1;
         refused(&fresh, order, 9, "an answer of 41 bytes");
         refused(&broken, order, 9, "9 for the answer comes before 8 for the state");
+        refused(&unsound, order, 9, "9 for the answer comes before 8 for the state");
         refused(&over, order, 9, "9 for the answer comes before 20");
         order.answer_short = HISPROAT_ANSWER_SIZE;
         refused(&fresh, order, 9, "an answer of no bytes");
@@ -488,6 +491,7 @@ static void every_event(Tally *t)
         if (writes((Event)i)) {
             refused(&fresh, order, 9, "an output that is a byte too small");
             refused(&broken, order, 9, "9 for the output comes before 8 for the state");
+            refused(&unsound, order, 9, "9 for the output comes before 8 for the state");
             refused(&over, order, 9, "9 for the output comes before 20");
         }
     }
@@ -495,6 +499,7 @@ static void every_event(Tally *t)
     drop_engine(&late);
     drop_engine(&over);
     drop_engine(&broken);
+    drop_engine(&unsound);
 }
 
 static void by_state(Tally *t)
@@ -870,7 +875,8 @@ static void closed_cleanly(Tally *t)
 /* A Begin on a channel that is tied replaces the tie; freeing an outgoing channel leaves it. */
 static void tie_replaced(Tally *t)
 {
-    Piece first = hex("00000014 02000005 005311 C00704 600002 434343"), second = hex("00000014 02000005 005311 C00704 600001 434343"), also = begin_for(6, 1), attach = frame(5, ATTACH), end = frame(5, END), begins = begin(0);
+    Piece first = hex("00000014 02000005 005311 C00704 600002 434343"), second = hex("00000014 02000005 005311 C00704 600001 434343");
+    Piece also = begin_for(6, 1), attach = frame(5, ATTACH), end = frame(5, END), begins = begin(0);
     Engine e = wall_opened(t, 4);
     check(t, incoming(&e, of(&first), 0).number == 12 && tied_handle(&e, 5) == 12, "a Begin ties a channel");
     check(t, incoming(&e, of(&second), 0).number == 11 && tied_handle(&e, 5) == 11, "a second one on the same channel ties it to another handle");
