@@ -4,7 +4,7 @@ use mathlib.Core.Path.{refl}
 use Rattle.octets.specs.Verdict.{require, andThen}
 use Rattle.octets.specs.Octets.{bigEndianFrom, bigEndian, bytesOf, startsWith}
 use Rattle.octets.specs.Output.{roomFor, laid}
-use Rattle.protocol_header.specs.Header.{isProtocolId, protocolId, startsWith as startsWithAll, header, hasId, isAmqp100, protocol, received, headerBytes}
+use Rattle.protocol_header.specs.Header.{isProtocolId, protocolId, startsWithAll, header, hasId, isAmqp100, protocol, received, headerBytes}
 use Rattle.values.specs.Value.{plus, followedBy, times, codes, kindIn, kindOf, bytes, numberIn, booleanEnd, variableEnd, pairedIn, opening, items, compoundEnd, body, afterCode, level, run, valueEnd}
 use Rattle.performatives.specs.Fields.{fieldsIn, fieldsOf}
 use Rattle.performatives.specs.Performative.{numberOf, sized, listAt, descriptor, described, split, errorShape, isError, hasType, fits, fit, fieldsBy, rowsFor, performativeBy, performative, numberOr, remoteChannel, startOf, conditionAt, condition}
