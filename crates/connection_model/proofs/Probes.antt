@@ -33,7 +33,7 @@ pub space-slice : isSlice space ≡ true
 unfolding space
 space-slice = slice-replicate 49152 (omega arith)
 
-space-room : (n : ℕ) → n ≤ 16384 → roomFor n space ≡ true
+pub space-room : (n : ℕ) → n ≤ 16384 → roomFor n space ≡ true
 unfolding space
 space-room n h = room-yes n (replicate 49152 0) (omega (arith, length-replicate {A = ℕ} 49152 0))
 
@@ -100,7 +100,7 @@ given-told h (some (ch ∷ rest)) = refl
 abbrev pub amqp : List ℕ
 amqp = 0x41 ∷ 0x4D ∷ 0x51 ∷ 0x50 ∷ 0 ∷ 1 ∷ 0 ∷ 0 ∷ []
 
-amqp-received : received amqp ≡ accept amqp100
+pub amqp-received : received amqp ≡ accept amqp100
 unfolding received header require andThen startsWith protocolId isProtocolId protocol isAmqp100 hasId
 amqp-received = refl
 
