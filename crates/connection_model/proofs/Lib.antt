@@ -12,3 +12,5 @@ pub mod ProbeFrames
 pub mod Probes
 pub mod Apart
 pub mod Theorem
+pub mod Led
+pub mod Exact

@@ -33,7 +33,7 @@ pub space-slice : isSlice space ≡ true
 unfolding space
 space-slice = slice-replicate 16384 (omega arith)
 
-space-room : roomFor 0 space ≡ true
+pub space-room : roomFor 0 space ≡ true
 unfolding space
 space-room = room-yes 0 (replicate 16384 0) (omega (arith, length-replicate {A = ℕ} 16384 0))
 
@@ -100,7 +100,7 @@ given-told h (some (ch ∷ rest)) = refl
 abbrev pub amqp : List ℕ
 amqp = 0x41 ∷ 0x4D ∷ 0x51 ∷ 0x50 ∷ 0 ∷ 1 ∷ 0 ∷ 0 ∷ []
 
-amqp-received : received amqp ≡ accept amqp100
+pub amqp-received : received amqp ≡ accept amqp100
 unfolding received header require andThen startsWithAll protocolId isProtocolId protocol isAmqp100 hasId
 amqp-received = refl
 

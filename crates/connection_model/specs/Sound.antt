@@ -1,4 +1,4 @@
--- What holds of every connection that calls can lead to: where it stands, its limits and its channels, without the peer's Open and with it.
+-- What holds of every connection that calls can lead to, and of no other (proofs/Exact.antt): where it stands, its limits and its channels, without the peer's Open and with it.
 -- Assumes nothing: these are definitions.
 use mathlib.Core.Path.{_≡_}
 use mathlib.Core.Bool.{true, false}
