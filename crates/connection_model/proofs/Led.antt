@@ -14,7 +14,7 @@ use Rattle.octets.specs.Octets.{bytesOf, startsWith}
 use Rattle.octets.specs.Output.{roomFor}
 use Rattle.octets.proofs.Laws.{require-on, then-accept}
 use Rattle.text.specs.Ascii.{ascii}
-use Rattle.protocol_header.specs.Header.{amqp100, other, isProtocolId, protocolId, startsWith as startsWithAll, header, hasId, isAmqp100, protocol, received, version100}
+use Rattle.protocol_header.specs.Header.{amqp100, other, isProtocolId, protocolId, startsWithAll, header, hasId, isAmqp100, protocol, received, version100}
 use Rattle.values.specs.Null.{null}
 use Rattle.serializer.specs.Written.{uint, ushort, textHeader, text, listHeader, joined, trimmed, compositeHeader, composite}
 use Rattle.serializer.proofs.Laws.{text-len-short, header-few}
