@@ -94,14 +94,17 @@ rest : (a b : Bool) → a && b ≡ true → b ≡ true
 rest true b e = e
 rest false b e = let z : _≡_ {A = ℕ} 0 1 = cc in absurd (omega arith)
 
+abbrev makes : ℕ → List ℕ → Made
+makes k s = record { returned = k; state = s }
+
 -- where 0 was returned, an engine was made
 made-when : (role : Role) (S : Settings) (s t : List ℕ) (b : Bool) (k : ℕ) → eqb (length s) 3102 && allowed S ≡ b
-    → record { returned = k; state = t } ≡ cond b (record { returned = 0; state = engineBytes role S fresh }) (record { returned = 8; state = s }) → k ≡ 0
+    → makes k t ≡ cond b (makes 0 (engineBytes role S fresh)) (makes 8 s) → k ≡ 0
     → (allowed S ≡ true) × (t ≡ engineBytes role S fresh)
 made-when role S s t true k e m z = (rest (eqb (length s) 3102) (allowed S) e, ap (λ (x : Made). x .state) m)
 made-when role S s t false k e m z = let y : _≡_ {A = ℕ} 0 8 = sym z ∙ ap (λ (x : Made). x .returned) m in absurd (omega arith)
 
-was-made : (role : Role) (S : Settings) (s t : List ℕ) (k : ℕ) → record { returned = k; state = t } ≡ made role S s → k ≡ 0 → (allowed S ≡ true) × (t ≡ engineBytes role S fresh)
+was-made : (role : Role) (S : Settings) (s t : List ℕ) (k : ℕ) → makes k t ≡ made role S s → k ≡ 0 → (allowed S ≡ true) × (t ≡ engineBytes role S fresh)
 unfolding made
 was-made role S s t k m z = made-when role S s t _ k refl m z
 
