@@ -131,16 +131,15 @@ module _ (d count : ℕ) (s : List ℕ) (hd : d ≡ 0 → ⊥) (hs : length s �
 
 -- ---- where no level is left
 
-pub run-bodies : (count : ℕ) (s : List ℕ) → 0 < count → refuse 6 ≡ run 0 count s
+pub run-bodies : (count : ℕ) (s : List ℕ) → (count ≡ 0 → ⊥) → refuse 6 ≡ run 0 count s
 unfolding run
-run-bodies zero s h = absurd (omega arith)
+run-bodies zero s h = absurd (h refl)
 run-bodies (suc k) s h = refl
 
-pub run-alone : (count : ℕ) (s : List ℕ) → count ≤ 0 → (length s ≡ 0 → ⊥) → run 0 count s ≡ andThen (kindOf (getD s 0 0)) (λ k. accept 1)
+pub run-alone : (s : List ℕ) → (length s ≡ 0 → ⊥) → run 0 0 s ≡ andThen (kindOf (getD s 0 0)) (λ k. accept 1)
 unfolding run level afterCode followedBy times plus andThen kindOf kindIn codes
-run-alone (suc k) s hc hs = absurd (omega arith)
-run-alone zero [] hc hs = absurd (hs refl)
-run-alone zero (c ∷ s) hc hs = go (eqb c 0) refl
+run-alone [] hs = absurd (hs refl)
+run-alone (c ∷ s) hs = go (eqb c 0) refl
   where
     one : (v : Verdict Kind) → plus 1 (andThen v (λ k. times 0 (body noValues k) s)) ≡ andThen v (λ k. accept 1)
     one (accept k) = refl
@@ -149,3 +148,16 @@ run-alone zero (c ∷ s) hc hs = go (eqb c 0) refl
     go : (b : Bool) → eqb c 0 ≡ b → plus 1 (afterCode noValues 0 b c s) ≡ andThen (kindOf c) (λ k. accept 1)
     go true q = rw (eqb-true c 0 q)
     go false q = one (kindOf c)
+
+-- what describes would stand deeper yet
+pub run-undescribed : (count : ℕ) (s : List ℕ) → (length s ≡ 0 → ⊥) → getD s 0 0 ≡ 0 → refuse 6 ≡ run 0 count s
+unfolding run kindOf kindIn codes andThen
+run-undescribed zero s hs e = sym (run-alone s hs ∙ rw e)
+run-undescribed (suc k) s hs e = refl
+
+-- an unknown code is refused at every level
+pub run-unknown : (d count : ℕ) (s : List ℕ) → (length s ≡ 0 → ⊥) → (getD s 0 0 ≡ 0 → ⊥) → kindOf (getD s 0 0) ≡ refuse 6 → refuse 6 ≡ run d count s
+unfolding run andThen plus
+run-unknown zero zero s hs z e = sym (run-alone s hs ∙ rw e)
+run-unknown zero (suc k) s hs z e = refl
+run-unknown (suc d) count s hs z e = sym (run-plain (suc d) count s (λ q. omega arith) hs z ∙ rw e)

@@ -33,7 +33,7 @@ use Rattle.values.specs.declared.Opening.the-variants.{Counted, Malforme
 use Rattle.values.specs.Value.{Reader, Kind, plus, times, kindOf, bytes, numberIn, booleanEnd, variableEnd, pairedIn, opening, items, compoundEnd, body, run}
 use Rattle.values.specs.Answers.{ended, widthOf, shapeSaid, kindSaid, codeSaid, numberSaid, openingSaid}
 use Rattle.values.proofs.Shape.{the-type}
-use Rattle.values.proofs.Cases.{tail, left, turn-more, turn-stop, turn-last, times-bytes, run-alone, run-described, run-plain}
+use Rattle.values.proofs.Cases.{tail, left, turn-more, turn-stop, turn-last, times-bytes, run-bodies, run-alone, run-undescribed, run-unknown, run-described, run-plain}
 use Rattle.values.proofs.Bounds.{Within, holds-accept, Opens, opening-holds, within-times, within-items, within-run, within-bodies}
 
 -- ---- numbers
@@ -126,21 +126,19 @@ in-rest f h s a n v l e q =
     let k : length (rest s a) ≡ length s - a = ap length (tail s a) ∙ length-drop a s in
     omega arith
 
--- ---- where no level is left
-
-module _ (count : ℕ) (s : List ℕ) (hc : count ≤ 0) (hs : length s ≡ 0 → ⊥) (k : Code) (o : codeSaid k ≡ kindOf (getD s 0 0)) where
-  pub alone-off : k ≡ Unknown → refuse 6 ≡ run 0 count s
-  unfolding andThen
-  alone-off u = sym (run-alone count s hc hs ∙ rw (← o, u))
-
-  pub alone-on : (kind : K.Kind) → k ≡ Known kind → accept 1 ≡ run 0 count s
-  unfolding andThen
-  alone-on kind u = sym (run-alone count s hc hs ∙ rw (← o, u))
-
 -- ---- constructor
 
-pub run-last : (d count : ℕ) (s : List ℕ) (v : Value) → d ≡ 0 → ended v ≡ run 0 count s → ended v ≡ run d count s
-run-last d count s v z e = rw z e
+module _ (d count : ℕ) (s : List ℕ) (z : d ≡ 0) where
+  pub deep-some : (count ≡ 0 → ⊥) → refuse 6 ≡ run d count s
+  deep-some n = rw z (run-bodies count s n)
+
+  module _ (hs : length s ≡ 0 → ⊥) where
+    pub deep-described : getD s 0 0 ≡ 0 → refuse 6 ≡ run d count s
+    deep-described e = rw z (run-undescribed count s hs e)
+
+    pub deep-none : count ≡ 0 → (k : Code) → codeSaid k ≡ kindOf (getD s 0 0) → (kind : K.Kind) → k ≡ Known kind → accept 1 ≡ run d count s
+    unfolding andThen
+    deep-none n k o kind u = sym (rw (z, n) (run-alone s hs ∙ rw (← o, u)))
 
 module _ (s : List ℕ) (d count : ℕ) (v : Value) (n : ℕ) (hs : length s ≡ 0 → ⊥) (e : ended v ≡ run d count (rest s 1)) (q : v ≡ End n) where
   pub next-in : 1 + n ≤ length s
@@ -176,10 +174,6 @@ module _ (d count : ℕ) (s : List ℕ) (hd : d ≡ 0 → ⊥) (hs : length s �
       both-on m p = sym (run-described d count s hd hs z ∙ rw (rw tail at (said u _ n e q), drop-drop, rw tail at (said v _ m f p)) (ap accept (omega arith)))
 
   module _ (z : getD s 0 0 ≡ 0 → ⊥) (k : Code) (o : codeSaid k ≡ kindOf (getD s 0 0)) where
-    pub unknown-off : k ≡ Unknown → refuse 6 ≡ run d count s
-    unfolding andThen plus
-    unknown-off u = sym (run-plain d count s hd hs z ∙ rw (← o, u))
-
     module _ (kind : K.Kind) (u : k ≡ Known kind) (v : Value) (e : ended v ≡ times count (body (run (d - 1)) (kindSaid kind)) (rest s 1)) where
       pub bodies-off : v ≡ Malformed → refuse 6 ≡ run d count s
       unfolding andThen plus
@@ -188,6 +182,9 @@ module _ (d count : ℕ) (s : List ℕ) (hd : d ≡ 0 → ⊥) (hs : length s �
       pub bodies-on : (n : ℕ) → v ≡ End n → accept (1 + n) ≡ run d count s
       unfolding andThen plus
       bodies-on n q = sym (run-plain d count s hd hs z ∙ rw (← o, u, rw tail at (said v _ n e q)))
+
+pub unknown-off : (d count : ℕ) (s : List ℕ) (k : Code) → (length s ≡ 0 → ⊥) → (getD s 0 0 ≡ 0 → ⊥) → codeSaid k ≡ kindOf (getD s 0 0) → k ≡ Unknown → refuse 6 ≡ run d count s
+unknown-off d count s k hs z o u = run-unknown d count s hs z (sym o ∙ ap codeSaid u)
 
 -- ---- a loop's turn; X is what the loop has to say
 

@@ -433,37 +433,20 @@ fn variable(s: &[u8], wide: bool) -> Value
     bytes(s, width(wide) + (size as usize))
 }
 
-// A constructor where no level is left for a value: a format code with no bodies.
-fn code_alone(s: &[u8], count: u32) -> Value
-    ensures { λ r. ⌜ ended r ≡ run 0 count (now (s .entry)) ⌝ }
-{
-    if count > 0 {
-        return Value::Malformed;
-    }
-    if s.len() == 0 {
-        return Value::Malformed;
-    }
-    let c = s[0];
-    let Code::Known(_kind) = code_of(c) else {
-        return Value::Malformed;
-    };
-    Value::End(1)
-}
-
 // A constructor, and as many bodies of it as `count` says: a value is a constructor with one body. It stands at the first of `depth` levels; a value that
-// describes, and what is described or stands in a compound, at the next.
+// describes, and what is described or stands in a compound, at the next. Where no level is left only a format code with no bodies may stand.
 fn constructor(s: &[u8], depth: u8, count: u32) -> Value
     ensures { λ r. ⌜ ended r ≡ run depth count (now (s .entry)) ⌝ }
 {
-    if depth == 0 {
-        return code_alone(s, count);
-    }
     if s.len() == 0 {
         return Value::Malformed;
     }
-    let inner = depth - 1;
     let c = s[0];
     if c == 0 {
+        if depth == 0 {
+            return Value::Malformed;
+        }
+        let inner = depth - 1;
         let Value::End(n) = constructor(&s[1..], inner, 1) else {
             return Value::Malformed;
         };
@@ -477,6 +460,13 @@ fn constructor(s: &[u8], depth: u8, count: u32) -> Value
     let Code::Known(kind) = code_of(c) else {
         return Value::Malformed;
     };
+    if depth == 0 {
+        if count == 0 {
+            return Value::End(1);
+        }
+        return Value::Malformed;
+    }
+    let inner = depth - 1;
     let Value::End(n) = bodies(&s[1..], inner, count, kind) else {
         return Value::Malformed;
     };

@@ -12,7 +12,7 @@ use Rattle.values.specs.Value as D
 use Rattle.values.specs.Value.{times, run}
 use Rattle.values.specs.Answers.{kindSaid}
 use Rattle.values.proofs.Cases.{left, turn-first, run-none}
-use Rattle.values.proofs.Steps.{width-fits, run-last, next-in, next-fits, two-fits, bodies-fit, first-off, second-off, both-on, unknown-off, bodies-off, bodies-on, ends, stops, goes-on, item-in, body-in, item-fits, body-fits, product-fits, bodies-fixed, body-fixed, body-boolean, body-variable, body-compound, compound-unopened, items-from, from-fits, items-end, compound-off, compound-filled, compound-other, filled-fits, items-array, each-ends, each-stops}
+use Rattle.values.proofs.Steps.{width-fits, deep-described, deep-none, deep-some, next-in, next-fits, two-fits, bodies-fit, first-off, second-off, both-on, unknown-off, bodies-off, bodies-on, ends, stops, goes-on, item-in, body-in, item-fits, body-fits, product-fits, bodies-fixed, body-fixed, body-boolean, body-variable, body-compound, compound-unopened, items-from, from-fits, items-end, compound-off, compound-filled, compound-other, filled-fits, items-array, each-ends, each-stops}
 use Rattle.values.proofs.bodies.Reads as bodies
 use Rattle.values.proofs.bodies.Kinds as bodies-kinds
 use Rattle.values.proofs.+bodies+body+compound+constructor+items.Lts-bodies as bodies-lts
@@ -31,7 +31,6 @@ use Rattle.values.proofs.+bodies+body+compound+constructor+items.Lts-it
 use Rattle.values.proofs.boolean.Reads as boolean-reads
 use Rattle.values.proofs.bytes.Reads as bytes-reads
 use Rattle.values.proofs.code_of.Reads as code-of-reads
-use Rattle.values.proofs.code_alone.Reads as code-alone-reads
 use Rattle.values.proofs.open_compound.Reads as open-compound-reads
 use Rattle.values.proofs.variable.Reads as variable-reads
 use Rattle.values.proofs.width.Reads as width-reads
@@ -44,7 +43,7 @@ ruleset body-steps = (body-fixed, body-boolean, body-variable, body-compound, ne
 
 ruleset compound-steps = (compound-unopened, width-fits, from-fits, items-from, items-end, compound-off, compound-filled, compound-other, filled-fits, needs)
 
-ruleset constructor-steps = (run-last, run-none, first-off, second-off, both-on, unknown-off, bodies-off, bodies-on, next-in, next-fits, two-fits, bodies-fit, needs)
+ruleset constructor-steps = (run-none, deep-described, deep-none, deep-some, first-off, second-off, both-on, unknown-off, bodies-off, bodies-on, next-in, next-fits, two-fits, bodies-fit, needs)
 
 ruleset items-steps = (items-array, each-stops, each-ends, item-fits, item-in, goes-on, needs)
 
@@ -264,22 +263,19 @@ compound-returns-4 t c = search compound-steps
 -- ---- constructor
 
 abbrev constructor-calls : ℕ → constructor-lts.Claims
-constructor-calls t = (code-alone-reads.Asked, code-alone-reads.Learnt, constructor-below t, constructor.Post, code-of-reads.Asked, code-of-reads.Learnt, bodies-below t, bodies.Post)
-
-constructor-code-alone-requires : (t : ℕ) → constructor-lts.Need-code-alone-requires (constructor-calls t) (constructor-at t) constructor.Post
-constructor-code-alone-requires t c κs = search constructor-steps
+constructor-calls t = (constructor-below t, constructor.Post, code-of-reads.Asked, code-of-reads.Learnt, bodies-below t, bodies.Post)
 
 constructor-returns : (t : ℕ) → constructor-lts.Need-returns (constructor-calls t) (constructor-at t) constructor.Post
 constructor-returns t c = search constructor-steps
+
+constructor-shared-slice-read-c : (t : ℕ) → constructor-lts.Need-shared-slice-read-c (constructor-calls t) (constructor-at t) constructor.Post
+constructor-shared-slice-read-c t c = search constructor-steps
 
 constructor-returns-2 : (t : ℕ) → constructor-lts.Need-returns-2 (constructor-calls t) (constructor-at t) constructor.Post
 constructor-returns-2 t c = search constructor-steps
 
 constructor-sub-inner : (t : ℕ) → constructor-lts.Need-sub-inner (constructor-calls t) (constructor-at t) constructor.Post
 constructor-sub-inner t c = search constructor-steps
-
-constructor-shared-slice-read-c : (t : ℕ) → constructor-lts.Need-shared-slice-read-c (constructor-calls t) (constructor-at t) constructor.Post
-constructor-shared-slice-read-c t c = search constructor-steps
 
 constructor-sub-constructor : (t : ℕ) → constructor-lts.Need-sub-constructor (constructor-calls t) (constructor-at t) constructor.Post
 constructor-sub-constructor t c = search constructor-steps
@@ -309,7 +305,7 @@ constructor-sub-constructor-2 : (t : ℕ) → constructor-lts.Need-sub-construct
 constructor-sub-constructor-2 t c = search constructor-steps
 
 constructor-part-constructor-start-2 : (t : ℕ) → constructor-lts.Need-part-constructor-start-2 (constructor-calls t) (constructor-at t) constructor.Post
-constructor-part-constructor-start-2 t c = next-in (c .before .before .before .before .before .before .before .before .before .before .args .s .now) _ _ _ _ (c .before .before .before .before .before .before .before .if2 .left) (c .before .before .before .constructor .ensures) (c .before .n .given .1)
+constructor-part-constructor-start-2 t c = next-in (c .before .before .before .before .before .before .before .before .before .before .args .s .now) _ _ _ _ (c .before .before .before .before .before .before .before .before .if1 .left) (c .before .before .before .constructor .ensures) (c .before .n .given .1)
 
 constructor-part-constructor-end-2 : (t : ℕ) → constructor-lts.Need-part-constructor-end-2 (constructor-calls t) (constructor-at t) constructor.Post
 constructor-part-constructor-end-2 t c = search constructor-steps
@@ -344,6 +340,15 @@ constructor-enum-told-3 t c = search constructor-steps
 constructor-returns-6 : (t : ℕ) → constructor-lts.Need-returns-6 (constructor-calls t) (constructor-at t) constructor.Post
 constructor-returns-6 t c = search constructor-steps
 
+constructor-returns-7 : (t : ℕ) → constructor-lts.Need-returns-7 (constructor-calls t) (constructor-at t) constructor.Post
+constructor-returns-7 t c = search constructor-steps
+
+constructor-returns-8 : (t : ℕ) → constructor-lts.Need-returns-8 (constructor-calls t) (constructor-at t) constructor.Post
+constructor-returns-8 t c = search constructor-steps
+
+constructor-sub-inner-2 : (t : ℕ) → constructor-lts.Need-sub-inner-2 (constructor-calls t) (constructor-at t) constructor.Post
+constructor-sub-inner-2 t c = search constructor-steps
+
 constructor-sub-bodies : (t : ℕ) → constructor-lts.Need-sub-bodies (constructor-calls t) (constructor-at t) constructor.Post
 constructor-sub-bodies t c = search constructor-steps
 
@@ -362,14 +367,14 @@ constructor-enum-known-n-2 t c = search constructor-steps
 constructor-enum-told-4 : (t : ℕ) → constructor-lts.Need-enum-told-4 (constructor-calls t) (constructor-at t) constructor.Post
 constructor-enum-told-4 t c = search constructor-steps
 
-constructor-returns-7 : (t : ℕ) → constructor-lts.Need-returns-7 (constructor-calls t) (constructor-at t) constructor.Post
-constructor-returns-7 t c = search constructor-steps
+constructor-returns-9 : (t : ℕ) → constructor-lts.Need-returns-9 (constructor-calls t) (constructor-at t) constructor.Post
+constructor-returns-9 t c = search constructor-steps
 
 constructor-add-end-2 : (t : ℕ) → constructor-lts.Need-add-end-2 (constructor-calls t) (constructor-at t) constructor.Post
 constructor-add-end-2 t c = search constructor-steps
 
-constructor-returns-8 : (t : ℕ) → constructor-lts.Need-returns-8 (constructor-calls t) (constructor-at t) constructor.Post
-constructor-returns-8 t c = search constructor-steps
+constructor-returns-10 : (t : ℕ) → constructor-lts.Need-returns-10 (constructor-calls t) (constructor-at t) constructor.Post
+constructor-returns-10 t c = search constructor-steps
 
 -- ---- items
 
@@ -436,5 +441,5 @@ pub +bodies+body+compound+constructor+items-spec : {M : Type 1} → statement M
     (λ t. bodies-lts.spec (bodies-calls t) (bodies-at t) bodies.Post bodies-Inv-loop bodies-μ-loop (bodies-enum-known-kind t) (bodies-cast-bytes t) (bodies-mul-bytes t) (bodies-bytes-requires t) (bodies-returns t) (bodies-loop-holds t) (bodies-sub-body t) (bodies-part-body-start t) (bodies-part-body-end t) (bodies-body-requires t) (bodies-enum-known-n t) (bodies-enum-told t) (bodies-returns-2 t) (bodies-add-at t) (bodies-add-i t) (bodies-loop-less t) (bodies-loop-again t) (bodies-returns-3 t))
     (λ t. body-lts.spec (body-calls t) (body-at t) body.Post (body-enum-known-kind t) (body-cast-bytes t) (body-bytes-requires t) (body-enum-told t) (body-boolean-requires t) (body-enum-known-kind-2 t) (body-variable-requires t) (body-enum-known-kind-3 t) (body-compound-requires t) (body-returns t) (body-returns-2 t) (body-returns-3 t) (body-returns-4 t))
     (λ t. compound-lts.spec (compound-calls t) (compound-at t) compound.Post (compound-open-compound-requires t) (compound-enum-known-size t) (compound-enum-told t) (compound-returns t) (compound-width-requires t) (compound-add-from t) (compound-cast-end t) (compound-add-end t) (compound-sub-items t) (compound-part-items-start t) (compound-part-items-end t) (compound-items-requires t) (compound-enum-known-n t) (compound-enum-told-2 t) (compound-returns-2 t) (compound-add-if1 t) (compound-returns-3 t) (compound-returns-4 t))
-    (λ t. constructor-lts.spec (constructor-calls t) (constructor-at t) constructor.Post (constructor-code-alone-requires t) (constructor-returns t) (constructor-returns-2 t) (constructor-sub-inner t) (constructor-shared-slice-read-c t) (constructor-sub-constructor t) (constructor-part-constructor-start t) (constructor-part-constructor-end t) (constructor-constructor-requires t) (constructor-enum-known-n t) (constructor-enum-told t) (constructor-returns-3 t) (constructor-add-next t) (constructor-sub-constructor-2 t) (constructor-part-constructor-start-2 t) (constructor-part-constructor-end-2 t) (constructor-constructor-requires-2 t) (constructor-enum-known-m t) (constructor-enum-told-2 t) (constructor-returns-4 t) (constructor-add-end t) (constructor-returns-5 t) (constructor-code-of-requires t) (constructor-enum-known-kind t) (constructor-enum-told-3 t) (constructor-returns-6 t) (constructor-sub-bodies t) (constructor-part-bodies-start t) (constructor-part-bodies-end t) (constructor-bodies-requires t) (constructor-enum-known-n-2 t) (constructor-enum-told-4 t) (constructor-returns-7 t) (constructor-add-end-2 t) (constructor-returns-8 t))
+    (λ t. constructor-lts.spec (constructor-calls t) (constructor-at t) constructor.Post (constructor-returns t) (constructor-shared-slice-read-c t) (constructor-returns-2 t) (constructor-sub-inner t) (constructor-sub-constructor t) (constructor-part-constructor-start t) (constructor-part-constructor-end t) (constructor-constructor-requires t) (constructor-enum-known-n t) (constructor-enum-told t) (constructor-returns-3 t) (constructor-add-next t) (constructor-sub-constructor-2 t) (constructor-part-constructor-start-2 t) (constructor-part-constructor-end-2 t) (constructor-constructor-requires-2 t) (constructor-enum-known-m t) (constructor-enum-told-2 t) (constructor-returns-4 t) (constructor-add-end t) (constructor-returns-5 t) (constructor-code-of-requires t) (constructor-enum-known-kind t) (constructor-enum-told-3 t) (constructor-returns-6 t) (constructor-returns-7 t) (constructor-returns-8 t) (constructor-sub-inner-2 t) (constructor-sub-bodies t) (constructor-part-bodies-start t) (constructor-part-bodies-end t) (constructor-bodies-requires t) (constructor-enum-known-n-2 t) (constructor-enum-told-4 t) (constructor-returns-9 t) (constructor-add-end-2 t) (constructor-returns-10 t))
     (λ t. items-lts.spec (items-calls t) (items-at t) items.Post items-Inv-loop items-μ-loop (items-enum-told t) (items-constructor-requires t) (items-returns t) (items-loop-holds t) (items-sub-constructor t) (items-part-constructor-start t) (items-part-constructor-end t) (items-constructor-requires-2 t) (items-enum-known-n t) (items-enum-told-2 t) (items-returns-2 t) (items-add-at t) (items-add-i t) (items-loop-less t) (items-loop-again t) (items-returns-3 t))
