@@ -35,7 +35,7 @@ use Rattle.engine.specs.declared.Phase.{Phase}
 use Rattle.engine.specs.Answers.{phaseSays, errorSays}
 use Rattle.engine.specs.Promises.{Lands, Keeps, Fails}
 use Rattle.engine.specs.Sending.{Drains, Drained, waitingTrail}
-use Rattle.engine.specs.Reading.{Answers}
+use Rattle.engine.specs.Reading.{Answered}
 use Rattle.engine.proofs.Does.{ruleOf, inner-refused, inner-accepted, Accepted}
 use Rattle.engine.proofs.Output.{rest-is, rest-lent, laid-behind, fits}
 use Rattle.engine.proofs.Failing.{close-same, keeps-of}
@@ -70,12 +70,12 @@ module _ (a : Verdict Answer) (c : Connection) (n : ℕ) (w lent o : List ℕ) (
 
   -- a waiting frame was refused
   pub answers-refused :
-      (k : ℕ) (error : InnerError) (out : List ℕ) (l : Landed) → t .answer ≡ Refused k → errorSays error ≡ sendFault k → Fails (errorSays error) (t .connection) (t .written) o out l → Answers a c n w lent out l
+      (k : ℕ) (error : InnerError) (out : List ℕ) (l : Landed) → t .answer ≡ Refused k → errorSays error ≡ sendFault k → Fails (errorSays error) (t .connection) (t .written) o out l → Answered a c n w lent out l
   answers-refused k error out l q e f =
       let kp = dr .drains-keeps in
       record {
-        answers-keeps = keeps-on c (t .connection) (l .connection) kp (f .fails-keeps);
-        answers = λ z fr room.
+        answered-keeps = keeps-on c (t .connection) (l .connection) kp (f .fails-keeps);
+        answered = λ z fr room.
             let d = dr .drains z fr room in
             let T = waitingTrail c n w lent in
             let last : T .last ≡ refuse k = sym (d .drained-last) ∙ ap sentSays q in
@@ -168,18 +168,18 @@ module _ (a : Verdict Answer) (c : Connection) (n : ℕ) (w lent o : List ℕ) (
     -- ---- of any connection
 
     pub answers-unclosed :
-        (k : ℕ) (error : InnerError) (out′ : List ℕ) (l : Landed) → closed ≡ Refused k → errorSays error ≡ sendFault k → Fails (errorSays error) d (t .written) out out′ l → Answers a c n w lent out′ l
+        (k : ℕ) (error : InnerError) (out′ : List ℕ) (l : Landed) → closed ≡ Refused k → errorSays error ≡ sendFault k → Fails (errorSays error) d (t .written) out out′ l → Answered a c n w lent out′ l
     answers-unclosed k error out′ l q e f = record {
-      answers-keeps = keeps-on c d (l .connection) kept (f .fails-keeps);
-      answers = λ z fr room. lands-refused z fr room k error out′ l q e f;
+      answered-keeps = keeps-on c d (l .connection) kept (f .fails-keeps);
+      answered = λ z fr room. lands-refused z fr room k error out′ l q e f;
     }
 
     pub answers-closed :
         (x y : ConnectionState) (role : E.Role) (m v : ℕ) (ph : Phase) → closed ≡ Bytes m → stateSays x ≡ View.viewOf c .state → stateSays y ≡ View.viewOf d .state → roleSays role ≡ View.roleOf d
         → phaseSays ph ≡ M.phaseAnswered (roleSays role) (stateSays x) a (stateSays y) → (v ≤ length out) × (t .written + m ≤ length out → v ≡ t .written + m)
-        → Answers a c n w lent out (record { phase = ph; written = v; connection = d })
+        → Answered a c n w lent out (record { phase = ph; written = v; connection = d })
     answers-closed x y role m v ph q sx sy ro pe ad = record {
-      answers-keeps = kept;
-      answers = λ z fr room.
+      answered-keeps = kept;
+      answered = λ z fr room.
           lands-written z fr room m v ph q (ad .1) (let i : t .written ≤ length o = dr .drains-inside in i) (pe ∙ (λ i. M.phaseAnswered (ro i) (sx i) a (sy i)));
     }

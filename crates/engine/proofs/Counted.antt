@@ -32,64 +32,64 @@ writtenIn (freed h) = 0
 abbrev pub Counted : Outcome → Type 0
 Counted o = length (o .bytes) ≡ writtenIn (o .answer)
 
-abbrev Tells : Verdict Outcome → Type 0
-Tells v = Holds Counted v
+abbrev AllCounted : Verdict Outcome → Type 0
+AllCounted v = Holds Counted v
 
 module _ (role : Role) (S : Settings) (c : Connection) where
-  on-headed : (p : Protocol) → Tells (headed c p)
+  on-headed : (p : Protocol) → AllCounted (headed c p)
   on-headed amqp100 = on-any _ _ _ (λ x. holds refl)
   on-headed (other h) = on-any _ _ _ (λ x. holds refl)
 
   module _ (f : Frame) where
-    on-tieTo : (o : Option ℕ) → Tells (tieTo f o)
+    on-tieTo : (o : Option ℕ) → AllCounted (tieTo f o)
     on-tieTo none = refused
     on-tieTo (some h) = holds refl
 
-    on-untie : (o : Option ℕ) → Tells (untie f o)
+    on-untie : (o : Option ℕ) → AllCounted (untie f o)
     on-untie none = refused
     on-untie (some h) = holds refl
 
-    on-passOn : (code : ℕ) (o : Option ℕ) → Tells (passOn f code o)
+    on-passOn : (code : ℕ) (o : Option ℕ) → AllCounted (passOn f code o)
     on-passOn code none = refused
     on-passOn code (some h) = holds refl
 
-    on-newSession : (ρ : Role) (h : ℕ) (l : Option (List ℕ)) → Tells (newSession ρ f h l)
+    on-newSession : (ρ : Role) (h : ℕ) (l : Option (List ℕ)) → AllCounted (newSession ρ f h l)
     on-newSession dialler h l = refused
     on-newSession listener h none = refused
     on-newSession listener h (some []) = refused
     on-newSession listener h (some (ch ∷ rest)) = holds refl
 
-    on-begun : (h : ℕ) (rs : List ℕ) → Tells (begun role c f h rs)
+    on-begun : (h : ℕ) (rs : List ℕ) → AllCounted (begun role c f h rs)
     on-begun h [] = on-newSession role h (c .handOut)
     on-begun h (r ∷ rs) = on-tieTo (c .taken r)
 
-    on-sessionRead : (h code : ℕ) (rs : List ℕ) → Tells (sessionRead role c f h code rs)
+    on-sessionRead : (h code : ℕ) (rs : List ℕ) → AllCounted (sessionRead role c f h code rs)
     on-sessionRead h code rs =
         on-require _ _ _ _ (λ t.
         on-cond _ (eqb code 17) _ _ (λ u. on-begun h rs)
         (on-cond _ (eqb code 23) _ _ (λ u. on-untie (c .ties (f .channel))) (on-passOn code (c .ties (f .channel)))))
 
-    on-performative : (h : ℕ) (p : Performative) → Tells (performativeRead role S c f h p)
+    on-performative : (h : ℕ) (p : Performative) → AllCounted (performativeRead role S c f h p)
     on-performative h p =
         on-cond _ (eqb (p .code) 24) _ _ (λ t. on-any _ _ _ (λ x. holds refl))
         (on-cond _ (is Discarding (c .state)) _ _ (λ t. holds refl)
         (on-cond _ (eqb (p .code) 16) _ _ (λ t. on-any _ _ _ (λ x. holds refl))
         (on-sessionRead h (p .code) (remoteChannel p))))
 
-  on-frame : (h : ℕ) (r : Frame × Option Performative) → Tells (frameRead role S c h r)
+  on-frame : (h : ℕ) (r : Frame × Option Performative) → AllCounted (frameRead role S c h r)
   on-frame h (f, none) = holds refl
   on-frame h (f, some p) = on-performative f h p
 
-  on-given : (h : ℕ) (l : Option (List ℕ)) → Tells (given h l)
+  on-given : (h : ℕ) (l : Option (List ℕ)) → AllCounted (given h l)
   on-given h none = refused
   on-given h (some []) = refused
   on-given h (some (ch ∷ rest)) = holds refl
 
-  on-released : (ch : ℕ) (o : Option ℕ) → Tells (released ch o)
+  on-released : (ch : ℕ) (o : Option ℕ) → AllCounted (released ch o)
   on-released ch none = refused
   on-released ch (some h) = holds refl
 
-  tells : (call : Call) → Tells (decide role S c call)
+  tells : (call : Call) → AllCounted (decide role S c call)
   tells (sendHeaderTo out) = on-require _ _ _ _ (λ t. on-any _ _ _ (λ x. holds refl))
   tells (receiveHeaderFrom s) = on-any _ (received s) _ on-headed
   tells (sendOpenTo out) = on-require _ _ _ _ (λ t. on-any _ _ _ (λ x. on-any _ _ _ (λ bytes. holds refl)))

@@ -23,7 +23,7 @@ use Rattle.engine.specs.declared.error.InnerError.{InnerError}
 use Rattle.engine.specs.declared.error.InnerError.the-variants.{TransportError, IllegalState, NotFound, SessionNotFound, OutgoingChannelNotFound, NotImplemented, RemoteSession}
 use Rattle.engine.proofs.error.InnerError.{the-type}
 use Rattle.engine.specs.Answers.{errorSays}
-use Rattle.engine.specs.Promises.{Tells}
+use Rattle.engine.specs.Promises.{SendsError}
 
 abbrev text : List ℕ → Option (List ℕ) → ErrorText
 text condition description = record { condition = condition; description = description }
@@ -38,7 +38,7 @@ abbrev pub textAt : ℕ → ErrorText
 textAt i = getD texts i (illegal .error)
 
 module _ (c : Connection) (out : List ℕ) where
-  pub told-nothing : (error : InnerError) → OneOf (0 ∷ []) (tagOf the-type error) → Tells (errorSays error) c (refuse 27) out out c
+  pub told-nothing : (error : InnerError) → OneOf (0 ∷ []) (tagOf the-type error) → SendsError (errorSays error) c (refuse 27) out out c
   told-nothing TransportError o = (refl, refl, refl)
   told-nothing IllegalState o = absurd (miss (0 ∷ []) 1 tt o)
   told-nothing NotFound o = absurd (miss (0 ∷ []) 2 tt o)
@@ -51,7 +51,7 @@ module _ (c : Connection) (out : List ℕ) where
     abbrev Sends : ErrorText → Type 0
     Sends e = C.Does (sendCloseTo (some e) out) c a out′ d
 
-    told-at : (error : InnerError) → 1 ≤ tagOf the-type error → Sends (textAt (tagOf the-type error)) → Tells (errorSays error) c a out out′ d
+    told-at : (error : InnerError) → 1 ≤ tagOf the-type error → Sends (textAt (tagOf the-type error)) → SendsError (errorSays error) c a out out′ d
     told-at TransportError l p = let z : 1 ≤ 0 = l in absurd (omega arith)
     told-at IllegalState l p = p
     told-at NotFound l p = p
@@ -60,7 +60,7 @@ module _ (c : Connection) (out : List ℕ) where
     told-at NotImplemented l p = p
     told-at RemoteSession l p = p
 
-    pub told : (i : ℕ) (error : InnerError) (e : ErrorText) → OneOf (i ∷ []) (tagOf the-type error) → 1 ≤ i → textAt i ≡ e → Sends e → Tells (errorSays error) c a out out′ d
+    pub told : (i : ℕ) (error : InnerError) (e : ErrorText) → OneOf (i ∷ []) (tagOf the-type error) → 1 ≤ i → textAt i ≡ e → Sends e → SendsError (errorSays error) c a out out′ d
     told i error e o l q p = told-at error (subst (λ n. 1 ≤ n) (sym o) l) (subst Sends (sym (ap textAt o ∙ q)) p)
 
 -- ---- room

@@ -31,7 +31,7 @@ use Rattle.engine.specs.declared.Outcome.{Outcome}
 use Rattle.engine.specs.declared.Phase.{Phase}
 use Rattle.engine.specs.declared.Landed.{Landed}
 use Rattle.engine.specs.Answers.{phaseSays, outcomeSays}
-use Rattle.engine.specs.Promises.{Tells, Lands, Keeps, Fails, notClosed}
+use Rattle.engine.specs.Promises.{SendsError, Lands, Keeps, Fails, notClosed}
 use Rattle.engine.proofs.Output.{rest-is, rest-lent, laid-behind, fits}
 use Rattle.engine.proofs.Does.{ruleOf, inner-refused, inner-accepted, Accepted}
 
@@ -46,7 +46,7 @@ module _ (c : Connection) (n : ℕ) (o s : List ℕ) (d : Connection) (oc : Outc
   abbrev left : List ℕ
   left = midOf n (length o - n) o
 
-  keeps : (f : Option M.Fault) (a : Verdict Answer) → Tells f c a left s d → Keeps c d
+  keeps : (f : Option M.Fault) (a : Verdict Answer) → SendsError f c a left s d → Keeps c d
   keeps none a t = record { keeps-role = ap View.roleOf (t .1); keeps-settings = ap View.settingsOf (t .1); keeps-sound = λ z. subst View.Sound (sym (t .1)) z }
   keeps (some f) a t = keeps-of (sendCloseTo (some (f .error)) left) c d a s t
 
@@ -94,7 +94,7 @@ module _ (c : Connection) (n : ℕ) (o s : List ℕ) (d : Connection) (oc : Outc
   -- ---- both, of any error
 
   pub fails-closed :
-      (f : Option M.Fault) (a : Written) (m w : ℕ) → Tells f c (sentSays a) left s d → a ≡ Bytes m → outcomeSays oc ≡ M.outcomeOf f → phaseSays p ≡ M.closedWith (outcomeSays oc) (stateSays x) → n ≤ length o
+      (f : Option M.Fault) (a : Written) (m w : ℕ) → SendsError f c (sentSays a) left s d → a ≡ Bytes m → outcomeSays oc ≡ M.outcomeOf f → phaseSays p ≡ M.closedWith (outcomeSays oc) (stateSays x) → n ≤ length o
       → (w ≤ length (putMid n (length o - n) o s)) × (n + m ≤ length (putMid n (length o - n) o s) → w ≡ n + m) → Fails f c n o (putMid n (length o - n) o s) (record { phase = p; written = w; connection = d })
   fails-closed none a m w t q oe ph le ad = let y : accept (wrote m) ≡ refuse 27 = ap sentSays (sym q) ∙ t .0 in let z : _≡_ {A = ℕ} 0 1 = cc in absurd (omega arith)
   fails-closed (some f) a m w t q oe ph le ad =
@@ -109,7 +109,7 @@ module _ (c : Connection) (n : ℕ) (o s : List ℕ) (d : Connection) (oc : Outc
   transport n′ ph e = ph ∙ ap (λ k. notClosed k M.transportError (stateSays x)) e
 
   pub fails-unclosed :
-      (f : Option M.Fault) (a : Written) (k : ℕ) → Tells f c (sentSays a) left s d → a ≡ Refused k → outcomeSays oc ≡ M.outcomeOf f → phaseSays p ≡ notClosed k (outcomeSays oc) (stateSays x)
+      (f : Option M.Fault) (a : Written) (k : ℕ) → SendsError f c (sentSays a) left s d → a ≡ Refused k → outcomeSays oc ≡ M.outcomeOf f → phaseSays p ≡ notClosed k (outcomeSays oc) (stateSays x)
       → Fails f c n o (putMid n (length o - n) o s) (record { phase = p; written = n; connection = d })
   fails-unclosed none a k t q oe ph =
       let y : _≡_ {A = Verdict Answer} (refuse k) (refuse 27) = ap sentSays (sym q) ∙ t .0 in

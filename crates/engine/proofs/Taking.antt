@@ -41,7 +41,7 @@ use Rattle.engine.proofs.Phase.{the-type}
 use Rattle.engine.specs.declared.Running.the-variants.{Refused as NotRun}
 use Rattle.engine.specs.Answers.{roleOf, settingsOf, viewOf, Sound, phaseSays, outcomeSays, goesOn, replySays}
 use Rattle.engine.specs.Promises.{Does, Lands, Keeps, LeadsTo, awaitedBy, consumedFor, lacksBytes}
-use Rattle.engine.specs.Reading.{Answers, Took, Taken, answersClose, readBy}
+use Rattle.engine.specs.Reading.{Answered, Took, Taken, answersClose, readBy}
 use Rattle.engine.proofs.Does.{comesTo, refuses, ruleOf}
 use Rattle.engine.proofs.Output.{laid-is}
 use Rattle.engine.proofs.Failing.{keeps-of}
@@ -75,10 +75,10 @@ module _ (e : ConnectionEngine) (s : List ℕ) (a : Verdict Answer) (c : Connect
     flag-is : b ≡ flag
     flag-is = bx ∙ ap (answersClose (View.viewOf (e .connection) .readingLimit) (View.settingsOf (e .connection) .channelMax) s) sx
 
-    pub took-answered : (out : List ℕ) (l : Landed) → b ≡ true → Answers a c n w lent out l → Took e s a c n w lent out l
+    pub took-answered : (out : List ℕ) (l : Landed) → b ≡ true → Answered a c n w lent out l → Took e s a c n w lent out l
     took-answered out l t an = record {
-      took-keeps = an .answers-keeps;
-      took = λ z st fr room. subst (λ u. Lands u lent out l) (λ i. by ((sym t ∙ flag-is) i) (sym (running-by (e .phase) o st) i)) (an .answers z fr room);
+      took-keeps = an .answered-keeps;
+      took = λ z st fr room. subst (λ u. Lands u lent out l) (λ i. by ((sym t ∙ flag-is) i) (sym (running-by (e .phase) o st) i)) (an .answered z fr room);
     }
 
     pub took-read : (out : List ℕ) (l : Landed) → b ≡ false → LeadsTo (stateSays x) a c 0 lent out l → Took e s a c n w lent out l

@@ -50,9 +50,9 @@ pub record Settles (c : Connection) (e : ConnectionEngine) : Type 0 where
   pub settles-with : e .connection ≡ c
 
 -- the peer is told of an error, if there is one to be told
-abbrev pub Tells : Option M.Fault → Connection → Verdict Answer → List ℕ → List ℕ → Connection → Type 0
-Tells none c a out out′ d = (a ≡ refuse 27) × (d ≡ c) × (out′ ≡ out)
-Tells (some f) c a out out′ d = C.Does (sendCloseTo (some (f .error)) out) c a out′ d
+abbrev pub SendsError : Option M.Fault → Connection → Verdict Answer → List ℕ → List ℕ → Connection → Type 0
+SendsError none c a out out′ d = (a ≡ refuse 27) × (d ≡ c) × (out′ ≡ out)
+SendsError (some f) c a out out′ d = C.Does (sendCloseTo (some (f .error)) out) c a out′ d
 
 -- the phase where a Close with an error was refused with k
 abbrev pub notClosed : ℕ → M.Outcome → State → M.Phase

@@ -24,9 +24,9 @@ use Rattle.engine.specs.Answers.{phaseSays, goesOn}
 use Rattle.engine.specs.Promises.{Keeps, Lands, awaitedBy}
 
 -- a Close was read and answered so, and is answered in its turn
-pub record Answers (a : Verdict Answer) (c : Connection) (n : ℕ) (w lent out : List ℕ) (r : Landed) : Type 0 where
-  pub answers-keeps : Keeps c (r .connection)
-  pub answers :
+pub record Answered (a : Verdict Answer) (c : Connection) (n : ℕ) (w lent out : List ℕ) (r : Landed) : Type 0 where
+  pub answered-keeps : Keeps c (r .connection)
+  pub answered :
       View.Sound c → sessionFrames (View.settingsOf c .channelMax) w ≡ accept n → roomFor (length w) lent ≡ true
       → Lands (M.answering (View.roleOf c) (View.settingsOf c) (framesIn n w) lent true a (View.viewOf c)) lent out r
 

@@ -15,7 +15,7 @@ ghost use Rattle.connection_state.specs.Answers.{stateSays};
 ghost use Rattle.endpoint.specs.Answers.{roleSays, sentSays};
 ghost use Rattle.engine_model.specs.Engine.{outcomeOf, sendFault, readFault, closedWith};
 ghost use Rattle.engine.specs.Answers.{phaseSays, outcomeSays, errorSays};
-ghost use Rattle.engine.specs.Promises.{Tells, Fails, notClosed};
+ghost use Rattle.engine.specs.Promises.{SendsError, Fails, notClosed};
 
 // An error inside an event: the outcome that it leads to, and what the peer is told.
 pub(crate) enum InnerError {
@@ -77,7 +77,7 @@ pub(crate) fn incoming_error(role: Role, k: u8) -> InnerError
 
 // Tells the peer of an error by a Close. Of a transport error it is told nothing.
 fn send_error(connection: Connection, error: InnerError, out: &mut [u8]) -> Sent
-    ensures { λ r. ⌜ Tells (errorSays error) connection (sentSays (r .answer)) (now (out .entry)) (now (out .exit)) (r .connection) ⌝ }
+    ensures { λ r. ⌜ SendsError (errorSays error) connection (sentSays (r .answer)) (now (out .entry)) (now (out .exit)) (r .connection) ⌝ }
 {
     match error {
         InnerError::TransportError => Sent {

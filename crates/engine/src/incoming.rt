@@ -30,7 +30,7 @@ ghost use Rattle.connection_state.specs.Answers.{stateSays};
 ghost use Rattle.connection.specs.View as View;
 ghost use Rattle.frame_decoder.specs.Frame.{readFrame};
 ghost use Rattle.frame_decoder.specs.Answers.{framesSay, refusalIn};
-ghost use Rattle.engine.specs.Reading.{Answers, Took, Taken, answersClose};
+ghost use Rattle.engine.specs.Reading.{Answered, Took, Taken, answersClose};
 ghost use Rattle.endpoint.specs.Answers.{answerSays};
 ghost use Rattle.engine_model.specs.Engine.{incoming, isClose};
 ghost use Rattle.engine.specs.declared.Running.the-variants.{Refused as NotRun};
@@ -124,7 +124,7 @@ fn answer_close(
     count: usize,
     out: &mut [u8],
 ) -> Landed
-    ensures { λ r. ⌜ Answers (answerSays answer) connection count (now (waiting .entry)) (now (out .entry)) (now (out .exit)) r ⌝ }
+    ensures { λ r. ⌜ Answered (answerSays answer) connection count (now (waiting .entry)) (now (out .entry)) (now (out .exit)) r ⌝ }
 {
     let reached = connection.state();
     let waited = send_waiting(connection, waiting, count, out);
