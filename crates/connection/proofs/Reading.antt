@@ -83,9 +83,6 @@ module _ (role : Role) (S : Settings) (c : M.Connection) (f : Frame) (h : ℕ) (
 
 -- ---- a frame
 
-said-frame : (r : Frame × Option Performative) (x : FrameSaid) → frameSaid r ≡ x → (r .0 .size ≡ x .size) × (r .0 .channel ≡ x .channel) × (r .0 .from ≡ x .from) × (saidOf (r .1) ≡ x .content)
-said-frame r x e = (ap (λ y. y .size) e, ap (λ y. y .channel) e, ap (λ y. y .from) e, ap (λ y. y .content) e)
-
 -- what was read, by its answer
 pub answer-was :
     (limit highest : ℕ) (s : List ℕ) (x : FrameSaid) → accept x ≡ frameAnswer limit highest s → (r : Frame × Option Performative) × (readFrame limit highest s ≡ accept r) × (frameSaid r ≡ x)

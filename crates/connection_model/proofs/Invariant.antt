@@ -280,7 +280,3 @@ module _ (H : ℕ → Type 0) (S : Settings) where
 
   pub handles-lent : (role : Role) (calls : List Call) → AllLend H calls → Lent H ((run role S fresh calls) .taken) ((run role S fresh calls) .ties)
   handles-lent role calls k = lent-run role calls fresh k (record { taken-lent = λ n h e. nothing-some none h refl e; tied-lent = λ n h e. nothing-some none h refl e })
-
--- handles of 32 bits stay so
-pub handles-small : (role : Role) (S : Settings) (calls : List Call) → AllLend (λ h. h < 4294967296) calls → Lent (λ h. h < 4294967296) ((run role S fresh calls) .taken) ((run role S fresh calls) .ties)
-handles-small role S calls k = handles-lent (λ h. h < 4294967296) S role calls k

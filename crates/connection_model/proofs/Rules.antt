@@ -178,13 +178,6 @@ pub sent-names : (highest : ℕ) (s : List ℕ) → Holds (λ r. NamesWithin hig
 unfolding sessionFrame
 sent-names highest s = on-any _ (frame anySize anyChannel s) _ (λ f. on-andThen _ _ (session-names highest (bodyIn f s)) (λ p t. holds t))
 
--- the same as equations
-pub read-highest : (limit highest : ℕ) (s : List ℕ) (f : Frame) (c : Option Performative) → readFrame limit highest s ≡ accept (f, c) → f .channel ≤ highest
-read-highest limit highest s f c e = accepted (read-channel limit highest s) e
-
-pub sent-highest : (highest : ℕ) (s : List ℕ) (f : Frame) (p : Performative) → sessionFrame highest s ≡ accept (f, p) → p .code ≡ 17 → T (within highest (remoteChannel p))
-sent-highest highest s f p e q = subst (λ b. T (within highest (beginsFor b p))) (eq-eqb (p .code) 17 q) (accepted (sent-names highest s) e)
-
 -- ---- what a rule knows of the effect that it asks for
 
 -- the handle that a call lends has the property

@@ -88,6 +88,7 @@ module _ (n : ℕ) (bytes : Role → Settings → Engine → List ℕ) (s a : Li
 
 -- ---- handles
 
+-- a result: what is told of a handle has the size that its answer must have
 pub length-taken : (ch : ℕ) (role : Role) (S : Settings) (e : Engine) → length (takenBytes ch role S e) ≡ 5
 unfolding takenBytes
 length-taken ch role S e = length-may 4 (e .connection .taken ch)
