@@ -163,8 +163,9 @@ arrived otherR bs x = to x
 arrived (S c) bs x = sent bs x
 arrived errorS bs x = sent bs x
 
+-- of the refusals 20 alone is the state's
 abbrev pub came : Action → State → Verdict Outcome → Leads
-came a x (refuse k) = illegal
+came a x (refuse k) = cond (eqb k 20) illegal unsaid
 came a x (accept o) = arrived a (o .bytes) (apply settings (o .effect) (standing x) .state)
 
 abbrev pub here : Action → State → Leads
@@ -180,12 +181,12 @@ place unsaid = 15
 pub record Difference : Type 0 where
   pub action : Action
   pub state : State
-  pub leads : Leads
-  pub instead : Leads
+  pub ours : Leads
+  pub theirs : Leads
 
 infix 5 _from_∶_not_
 abbrev pub _from_∶_not_ : Action → State → Leads → Leads → Difference
-a from x ∶ l not k = record { action = a; state = x; leads = l; instead = k }
+a from x ∶ l not k = record { action = a; state = x; ours = l; theirs = k }
 
 abbrev pub unlessSame : Bool → Difference → List Difference → List Difference
 unlessSame true d ds = ds
