@@ -1,5 +1,5 @@
 #!/usr/bin/env bash
-# Tests of the C side: the headers as C and as C++, the example, the tests through C (under valgrind too), the stack, the frame reader, a bound on the instructions
+# Tests of the C side: the headers as C and as C++, the example, the tests through C (under valgrind too), the stack, the frame reader, the instructions of a width, a bound on those
 # of reading, and the example hub against its stored output and with damaged pads.
 # Usage: tests/c.sh [ARCHIVE]; without ARCHIVE the library is built by rt, with the kit that keeps the module of it for tests/fuzz.sh. Installs gcc, g++ and valgrind where they are missing.
 # The last line is 'c.sh: N parts passed', and the exit status 0, where nothing was wrong.
@@ -59,6 +59,9 @@ passed "no call uses more stack than the header says: $stack bytes"
 gcc -std=c11 -O2 "${warnings[@]}" tests/c/frame_reader.c "$reader" "$archive" -o "$work/frame_reader"
 "$work/frame_reader"
 passed "the frame reader, beside the engine"
+
+python3 tests/width.py "$reader" "$archive"
+passed "a width is the few instructions that the document shows"
 
 # the bound on instructions, and that it can fail
 gcc -std=c11 -O2 "${warnings[@]}" tests/c/linear.c "$reader" "$archive" -o "$work/linear"

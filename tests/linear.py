@@ -12,7 +12,7 @@ import tempfile
 from pathlib import Path
 
 # For each way of reading: the instructions of a call, and those of a byte. The most that was seen is about two thirds of that (docs/PERFORMANCE.md).
-BOUNDS = {"reader": (3000, 150), "engine": (25000, 150), "to-send": (40000, 600)}
+BOUNDS = {"reader": (3000, 130), "engine": (25000, 130), "to-send": (40000, 520)}
 
 SECONDS = 120  # a run takes a few
 

@@ -1,3 +1,4 @@
 -- What the proofs of several functions, and of the crates above, use.
 pub mod Laws
 pub mod Steps
+pub mod Tables

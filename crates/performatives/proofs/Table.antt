@@ -1,15 +1,15 @@
 -- The code's table says of each field what the list of performatives says: a test that antt computes over all 126 places.
 -- Assumes nothing.
 use mathlib.Core.Path.{_≡_, refl, sym, ap, _∙_}
-use mathlib.Core.List.{List, [], _∷_, map}
+use mathlib.Core.List.{List, [], _∷_}
 use mathlib.Core.Bool.{Bool, true, false, cond, _&&_}
 use mathlib.Core.Option.{Option, none, some}
 use Prim.Native.Nat.{ℕ, zero, suc, _+_, _*_, _-_, _/_, _%_, _<_, _≤_}
-use native.Mathlib.Nat.{add-suc, suc-add, add-zero, zero-add}
 use native.Mathlib.Omega.{arith}
 use lib.Dec.{leb, eqb}
-use lib.ListN.{length, getD, List·getD-map}
+use lib.ListN.{length, getD}
 use borrow.Author.Tests.{ne-eqb, leb-true}
+use Rattle.octets.proofs.Tables.{upFrom, same-below}
 use Rattle.performatives.proofs.Bools.{and-first, and-second}
 use Rattle.performatives.specs.Fields.{Field, Any, UShort, UInt, String, Error, may, must, defaults, performatives, fieldsIn, fieldsOf, fieldIn, fieldOf, fieldAt}
 
@@ -71,36 +71,9 @@ rowNamed n =
 placed : ℕ → Option Field
 placed k = fieldAt (16 + k / 14) (k % 14)
 
-upFrom : ℕ → ℕ → List ℕ
-upFrom i zero = []
-upFrom i (suc n) = i ∷ upFrom (suc i) n
-
-at-up : (n i k : ℕ) → k < n → getD (upFrom i n) k 0 ≡ i + k
-unfolding upFrom
-at-up zero i k h = absurd (omega arith)
-at-up (suc n) i zero h = sym (add-zero i)
-at-up (suc n) i (suc k) h = at-up n (suc i) k (omega arith) ∙ suc-add i k ∙ sym (add-suc i k)
-
-up-length : length (map placed (upFrom 0 126)) ≡ 126
-unfolding upFrom
-up-length = refl
-
-all-right : map rowNamed rows ≡ map placed (upFrom 0 126)
-unfolding upFrom rowIn rowNamed placed fieldAt fieldOf fieldIn fieldsOf fieldsIn
-all-right = refl
-
-default : (l : List (Option Field)) (i : ℕ) (a b : Option Field) → i < length l → getD l i a ≡ getD l i b
-default [] i a b h = absurd (omega arith)
-default (x ∷ l) zero a b h = refl
-default (x ∷ l) (suc i) a b h = default l i a b (omega arith)
-
 table-right : (k : ℕ) → k < 126 → rowNamed (getD rows k 0) ≡ placed k
-table-right k h =
-    sym (List·getD-map rowNamed rows k 0)
-    ∙ ap (λ (l : List (Option Field)). getD l k (rowNamed 0)) all-right
-    ∙ default (map placed (upFrom 0 126)) k (rowNamed 0) (placed 0) (let l : length (map placed (upFrom 0 126)) ≡ 126 = up-length in omega arith)
-    ∙ List·getD-map placed (upFrom 0 126) k 0
-    ∙ ap placed (at-up 126 0 k h ∙ zero-add k)
+unfolding upFrom rowIn rowNamed placed fieldAt fieldOf fieldIn fieldsOf fieldsIn
+table-right k h = same-below (λ k. rowNamed (getD rows k 0)) placed 126 refl k h
 
 -- an entry that is n
 pub entry : (code i n : ℕ) (v : Option Field) → 16 ≤ code → code ≤ 24 → i < 14 → getD rows ((code - 16) * 14 + i) 0 ≡ n → v ≡ rowNamed n → v ≡ fieldAt code i

@@ -14,6 +14,8 @@ use borrow.Author.Tests.{le-leb, lt-leb, eq-eqb, ne-eqb, eqb-true, leb-true, leb
 use Rattle.octets.specs.Verdict.{Verdict, refuse, accept, andThen}
 use Rattle.octets.proofs.Laws.{require-on, require-off}
 use Rattle.values.specs.Value.{Reader, Kind, plus, followedBy, times, bytes, booleanEnd, afterCode, level, noValues, run, codes, kindIn, kindOf, body}
+use Rattle.values.specs.Widths.{fixedWidth}
+use Rattle.values.proofs.Widths.{boolean-width}
 
 -- a part to the end
 pub tail : (s : List ℕ) (a : ℕ) → take (length s - a) (drop a s) ≡ drop a s
@@ -37,20 +39,24 @@ pub bytes-no : (n : ℕ) (s : List ℕ) → length s < n → refuse 6 ≡ bytes 
 unfolding bytes
 bytes-no n s h = sym (require-off _ _ _ (lt-leb _ _ h))
 
-pub boolean-none : (s : List ℕ) → length s ≡ 0 → refuse 6 ≡ booleanEnd s
+-- a boolean, with the width of its code
+pub boolean-none : (s : List ℕ) (w : ℕ) → w ≡ fixedWidth 0x56 → length s < w → refuse 6 ≡ booleanEnd s
 unfolding booleanEnd
-boolean-none [] h = refl
-boolean-none (b ∷ s) h = absurd (omega arith)
+boolean-none [] w e h = refl
+boolean-none (b ∷ s) w e h = absurd (omega (arith, boolean-width))
 
-pub boolean-yes : (s : List ℕ) → (length s ≡ 0 → ⊥) → getD s 0 0 ≤ 1 → accept 1 ≡ booleanEnd s
-unfolding booleanEnd
-boolean-yes [] n h = absurd (n refl)
-boolean-yes (b ∷ s) n h = sym (require-on _ _ _ (le-leb _ _ h))
+pub boolean-there : (s : List ℕ) (w : ℕ) → w ≡ fixedWidth 0x56 → w ≤ length s → 0 < length s
+boolean-there s w e h = omega (arith, boolean-width)
 
-pub boolean-no : (s : List ℕ) → (length s ≡ 0 → ⊥) → 1 < getD s 0 0 → refuse 6 ≡ booleanEnd s
+pub boolean-yes : (s : List ℕ) (w : ℕ) → w ≡ fixedWidth 0x56 → w ≤ length s → getD s 0 0 ≤ 1 → accept w ≡ booleanEnd s
 unfolding booleanEnd
-boolean-no [] n h = absurd (n refl)
-boolean-no (b ∷ s) n h = sym (require-off _ _ _ (lt-leb _ _ h))
+boolean-yes [] w e n h = absurd (omega (arith, boolean-width))
+boolean-yes (b ∷ s) w e n h = rw (e, boolean-width) (sym (require-on _ _ _ (le-leb _ _ h)))
+
+pub boolean-no : (s : List ℕ) (w : ℕ) → w ≡ fixedWidth 0x56 → w ≤ length s → 1 < getD s 0 0 → refuse 6 ≡ booleanEnd s
+unfolding booleanEnd
+boolean-no [] w e n h = absurd (omega (arith, boolean-width))
+boolean-no (b ∷ s) w e n h = sym (require-off _ _ _ (lt-leb _ _ h))
 
 -- ---- a loop over items: what is left after `at` bytes and i of count turns
 

@@ -1,4 +1,5 @@
 -- What the proofs of several functions, and of the crates above, use.
+pub mod Widths
 pub mod Cases
 pub mod Bounds
 pub mod Table

@@ -31,6 +31,7 @@ use Rattle.values.specs.declared.Number.the-variants.{Is, Short}
 use Rattle.values.specs.declared.Opening.{Opening}
 use Rattle.values.specs.declared.Opening.the-variants.{Counted, Malformed as Unopened}
 use Rattle.values.specs.Value.{Reader, Kind, plus, times, kindOf, bytes, numberIn, booleanEnd, variableEnd, pairedIn, opening, items, compoundEnd, body, run}
+use Rattle.values.specs.Widths.{fixedWidth}
 use Rattle.values.specs.Answers.{ended, widthOf, shapeSaid, kindSaid, codeSaid, numberSaid, openingSaid}
 use Rattle.values.proofs.Shape.{the-type}
 use Rattle.values.proofs.Cases.{tail, left, turn-more, turn-stop, turn-last, times-bytes, run-bodies, run-alone, run-undescribed, run-unknown, run-described, run-plain}
@@ -214,20 +215,20 @@ body-fits d k s at n v l h e q = omega (arith, body-in d s at n v h k e q)
 
 -- ---- bodies
 
--- a count of 32 bits times a width of 8
-pub product-fits : (a b : ℕ) → Fits w32 a → Fits w8 b → Fits w64 (a * b)
-product-fits a b h k = let m : a * b ≤ a * 256 = mul-le-mul-left a (le-of-lt (k .fits)) in omega arith
+-- a count of 32 bits times a width of 32
+pub product-fits : (a b : ℕ) → Fits w32 a → Fits w32 b → Fits w64 (a * b)
+product-fits a b h k = let m : a * b ≤ a * 2 ^ 32 = mul-le-mul-left a (le-of-lt (k .fits)) in omega arith
 
-pub bodies-fixed : (d count w : ℕ) (kind : K.Kind) (s : List ℕ) (v : Value) → kind ≡ Fixed w → ended v ≡ bytes (count * w) s → ended v ≡ times count (body (run d) (kindSaid kind)) s
+pub bodies-fixed : (d count c w : ℕ) (kind : K.Kind) (s : List ℕ) (v : Value) → kind ≡ Fixed c → w ≡ fixedWidth c → ended v ≡ bytes (count * w) s → ended v ≡ times count (body (run d) (kindSaid kind)) s
 unfolding body
-bodies-fixed d count w kind s v e q = rw e (q ∙ sym (times-bytes w count s))
+bodies-fixed d count c w kind s v e f q = rw (e, ← f) (q ∙ sym (times-bytes w count s))
 
 -- ---- body
 
 module _ (d : ℕ) (kind : K.Kind) (s : List ℕ) (v : Value) where
-  pub body-fixed : (w : ℕ) → kind ≡ Fixed w → ended v ≡ bytes w s → ended v ≡ body (run d) (kindSaid kind) s
+  pub body-fixed : (c w : ℕ) → kind ≡ Fixed c → w ≡ fixedWidth c → ended v ≡ bytes w s → ended v ≡ body (run d) (kindSaid kind) s
   unfolding body
-  body-fixed w e q = rw e q
+  body-fixed c w e f q = rw (e, ← f) q
 
   pub body-boolean : kind ≡ Boolean → ended v ≡ booleanEnd s → ended v ≡ body (run d) (kindSaid kind) s
   unfolding body

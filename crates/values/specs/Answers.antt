@@ -16,6 +16,7 @@ use Rattle.values.specs.declared.Number.the-variants.{Is, Short}
 use Rattle.values.specs.declared.Opening.{Opening}
 use Rattle.values.specs.declared.Opening.the-variants.{Counted, Malformed as Unopened}
 use Rattle.values.specs.Value.{Shape, list, map, array, Kind, fixed, boolean, variable, compound}
+use Rattle.values.specs.Widths.{fixedWidth}
 
 -- a value that takes n bytes; a malformed one
 abbrev pub ended : Value → Verdict ℕ
@@ -33,7 +34,7 @@ shapeSaid Map = map
 shapeSaid Array = array
 
 abbrev pub kindSaid : K.Kind → Kind
-kindSaid (Fixed w) = fixed w
+kindSaid (Fixed c) = fixed (fixedWidth c)
 kindSaid Boolean = boolean
 kindSaid (Variable wide) = variable (widthOf wide)
 kindSaid (Compound shape wide) = compound (shapeSaid shape) (widthOf wide)

@@ -1,3 +1,4 @@
 pub mod Value
+pub mod Widths
 pub mod Answers
 pub mod Null

@@ -15,6 +15,7 @@ ghost use Rattle.values.specs.Value.{
   run,
   valueEnd,
 };
+ghost use Rattle.values.specs.Widths.{fixedWidth};
 ghost use Rattle.values.specs.Answers.{
   ended,
   widthOf,
@@ -40,7 +41,8 @@ enum Shape {
     Array,
 }
 
-// What stands after a format code. The bool says whether sizes and counts have four bytes, and not one.
+// What stands after a format code. A fixed one has the code itself, from which its width follows. The bool says whether sizes and counts have four
+// bytes, and not one.
 enum Kind {
     Fixed(u8),
     Boolean,
@@ -65,283 +67,73 @@ enum Opening {
     Malformed,
 }
 
-// The kind of each format code, as `code_of` reads it: to 16 the width of a fixed one, and 255 where there is no such code.
-const KINDS: [u8; 256] = [
-    255,
-    255,
-    255,
-    255,
-    255,
-    255,
-    255,
-    255,
-    255,
-    255,
-    255,
-    255,
-    255,
-    255,
-    255,
-    255,
-    255,
-    255,
-    255,
-    255,
-    255,
-    255,
-    255,
-    255,
-    255,
-    255,
-    255,
-    255,
-    255,
-    255,
-    255,
-    255,
-    255,
-    255,
-    255,
-    255,
-    255,
-    255,
-    255,
-    255,
-    255,
-    255,
-    255,
-    255,
-    255,
-    255,
-    255,
-    255,
-    255,
-    255,
-    255,
-    255,
-    255,
-    255,
-    255,
-    255,
-    255,
-    255,
-    255,
-    255,
-    255,
-    255,
-    255,
-    255,
-    0, // 40 null
-    0, // 41 true
-    0, // 42 false
-    0, // 43 uint 0
-    0, // 44 ulong 0
-    0, // 45 list of none
-    255,
-    255,
-    255,
-    255,
-    255,
-    255,
-    255,
-    255,
-    255,
-    255,
-    1, // 50 ubyte
-    1, // 51 byte
-    1, // 52 uint
-    1, // 53 ulong
-    1, // 54 int
-    1, // 55 long
-    17, // 56 boolean
-    255,
-    255,
-    255,
-    255,
-    255,
-    255,
-    255,
-    255,
-    255,
-    2, // 60 ushort
-    2, // 61 short
-    255,
-    255,
-    255,
-    255,
-    255,
-    255,
-    255,
-    255,
-    255,
-    255,
-    255,
-    255,
-    255,
-    255,
-    4, // 70 uint
-    4, // 71 int
-    4, // 72 float
-    4, // 73 char
-    4, // 74 decimal32
-    255,
-    255,
-    255,
-    255,
-    255,
-    255,
-    255,
-    255,
-    255,
-    255,
-    255,
-    8, // 80 ulong
-    8, // 81 long
-    8, // 82 double
-    8, // 83 timestamp
-    8, // 84 decimal64
-    255,
-    255,
-    255,
-    255,
-    255,
-    255,
-    255,
-    255,
-    255,
-    255,
-    255,
-    255,
-    255,
-    255,
-    255,
-    16, // 94 decimal128
-    255,
-    255,
-    255,
-    16, // 98 uuid
-    255,
-    255,
-    255,
-    255,
-    255,
-    255,
-    255,
-    18, // A0 binary
-    18, // A1 string
-    255,
-    18, // A3 symbol
-    255,
-    255,
-    255,
-    255,
-    255,
-    255,
-    255,
-    255,
-    255,
-    255,
-    255,
-    255,
-    19, // B0 binary
-    19, // B1 string
-    255,
-    19, // B3 symbol
-    255,
-    255,
-    255,
-    255,
-    255,
-    255,
-    255,
-    255,
-    255,
-    255,
-    255,
-    255,
-    20, // C0 list
-    22, // C1 map
-    255,
-    255,
-    255,
-    255,
-    255,
-    255,
-    255,
-    255,
-    255,
-    255,
-    255,
-    255,
-    255,
-    255,
-    21, // D0 list
-    23, // D1 map
-    255,
-    255,
-    255,
-    255,
-    255,
-    255,
-    255,
-    255,
-    255,
-    255,
-    255,
-    255,
-    255,
-    255,
-    24, // E0 array
-    255,
-    255,
-    255,
-    255,
-    255,
-    255,
-    255,
-    255,
-    255,
-    255,
-    255,
-    255,
-    255,
-    255,
-    255,
-    25, // F0 array
-    255,
-    255,
-    255,
-    255,
-    255,
-    255,
-    255,
-    255,
-    255,
-    255,
-    255,
-    255,
-    255,
-    255,
-    255,
+// The kinds of codes, as `KINDS` has them. Sizes and counts have four bytes in those of 32 bits, and one byte in those of 8.
+const NONE: u64 = 0;
+
+const FIXED: u64 = 1;
+
+const BOOLEAN: u64 = 2;
+
+const VARIABLE_8: u64 = 3;
+
+const VARIABLE_32: u64 = 4;
+
+const LIST_8: u64 = 5;
+
+const LIST_32: u64 = 6;
+
+const MAP_8: u64 = 7;
+
+const MAP_32: u64 = 8;
+
+const ARRAY_8: u64 = 9;
+
+const ARRAY_32: u64 = 10;
+
+// Which format codes there are, and of which kind: a word for each upper half of a code, and in it a hexadecimal digit for each lower half, the last one
+// for 0. `FIXED * 0x11` in the place of 6 says that 60 and 61 are fixed, and that there are no other codes from 60 to 6F.
+const KINDS: [u64; 16] = [
+    NONE,
+    NONE,
+    NONE,
+    NONE,
+    FIXED * 0x11_1111, // 40 null, 41 true, 42 false, 43 uint 0, 44 ulong 0, 45 list of none
+    FIXED * 0x11_1111 + BOOLEAN * 0x100_0000, // 50 ubyte, 51 byte, 52 uint, 53 ulong, 54 int, 55 long, 56 boolean
+    FIXED * 0x11, // 60 ushort, 61 short
+    FIXED * 0x1_1111, // 70 uint, 71 int, 72 float, 73 char, 74 decimal32
+    FIXED * 0x1_1111, // 80 ulong, 81 long, 82 double, 83 timestamp, 84 decimal64
+    FIXED * 0x1_0001_0000, // 94 decimal128, 98 uuid
+    VARIABLE_8 * 0x1011, // A0 binary, A1 string, A3 symbol
+    VARIABLE_32 * 0x1011, // B0 binary, B1 string, B3 symbol
+    LIST_8 * 0x1 + MAP_8 * 0x10, // C0 list, C1 map
+    LIST_32 * 0x1 + MAP_32 * 0x10, // D0 list, D1 map
+    ARRAY_8 * 0x1, // E0 array
+    ARRAY_32 * 0x1, // F0 array
 ];
+
+// The width of a code from 40 to 9F, by its upper half: no byte for 4, and for 5 to 9 one, two, four, eight and sixteen.
+fn fixed_width(c: u8) -> u32
+    ensures { λ r. ⌜ r ≡ fixedWidth c ⌝ }
+{
+    (1 << (c >> 4)) >> 5
+}
 
 // The kind of a format code.
 fn code_of(c: u8) -> Code
     ensures { λ r. ⌜ codeSaid r ≡ kindOf c ⌝ }
 {
-    let i = c as usize;
-    let n = KINDS[i];
-    match n {
-        0..=16 => Code::Known(Kind::Fixed(n)),
-        17 => Code::Known(Kind::Boolean),
-        18 => Code::Known(Kind::Variable(false)),
-        19 => Code::Known(Kind::Variable(true)),
-        20 => Code::Known(Kind::Compound(Shape::List, false)),
-        21 => Code::Known(Kind::Compound(Shape::List, true)),
-        22 => Code::Known(Kind::Compound(Shape::Map, false)),
-        23 => Code::Known(Kind::Compound(Shape::Map, true)),
-        24 => Code::Known(Kind::Compound(Shape::Array, false)),
-        25 => Code::Known(Kind::Compound(Shape::Array, true)),
+    let word = KINDS[(c >> 4) as usize];
+    match (word >> (c % 16 * 4)) % 16 {
+        FIXED => Code::Known(Kind::Fixed(c)),
+        BOOLEAN => Code::Known(Kind::Boolean),
+        VARIABLE_8 => Code::Known(Kind::Variable(false)),
+        VARIABLE_32 => Code::Known(Kind::Variable(true)),
+        LIST_8 => Code::Known(Kind::Compound(Shape::List, false)),
+        LIST_32 => Code::Known(Kind::Compound(Shape::List, true)),
+        MAP_8 => Code::Known(Kind::Compound(Shape::Map, false)),
+        MAP_32 => Code::Known(Kind::Compound(Shape::Map, true)),
+        ARRAY_8 => Code::Known(Kind::Compound(Shape::Array, false)),
+        ARRAY_32 => Code::Known(Kind::Compound(Shape::Array, true)),
         _ => Code::Unknown,
     }
 }
@@ -409,15 +201,16 @@ fn bytes(s: &[u8], n: usize) -> Value
     }
 }
 
-// A byte that is 00 or 01.
+// The body of the code 56, a byte that is 00 or 01.
 fn boolean(s: &[u8]) -> Value
     ensures { λ r. ⌜ ended r ≡ booleanEnd (now (s .entry)) ⌝ }
 {
-    if s.len() == 0 {
+    let w = fixed_width(0x56) as usize;
+    if s.len() < w {
         return Value::Malformed;
     }
     if s[0] <= 1 {
-        Value::End(1)
+        Value::End(w)
     } else {
         Value::Malformed
     }
@@ -479,8 +272,8 @@ fn constructor(s: &[u8], depth: u8, count: u32) -> Value
 fn bodies(s: &[u8], depth: u8, count: u32, kind: Kind) -> Value
     ensures { λ r. ⌜ ended r ≡ times count (body (run depth) (kindSaid kind)) (now (s .entry)) ⌝ }
 {
-    if let Kind::Fixed(w) = kind {
-        return bytes(s, (count as usize) * (w as usize));
+    if let Kind::Fixed(c) = kind {
+        return bytes(s, (count as usize) * (fixed_width(c) as usize));
     }
     let mut at: usize = 0;
     let mut i: u32 = 0;
@@ -499,7 +292,7 @@ fn body(s: &[u8], depth: u8, kind: Kind) -> Value
     ensures { λ r. ⌜ ended r ≡ body (run depth) (kindSaid kind) (now (s .entry)) ⌝ }
 {
     match kind {
-        Kind::Fixed(w) => bytes(s, w as usize),
+        Kind::Fixed(c) => bytes(s, fixed_width(c) as usize),
         Kind::Boolean => boolean(s),
         Kind::Variable(wide) => variable(s, wide),
         Kind::Compound(shape, wide) => compound(s, depth, shape, wide),

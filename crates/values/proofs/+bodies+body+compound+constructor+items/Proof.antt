@@ -31,6 +31,7 @@ use Rattle.values.proofs.+bodies+body+compound+constructor+items.Lts-it
 use Rattle.values.proofs.boolean.Reads as boolean-reads
 use Rattle.values.proofs.bytes.Reads as bytes-reads
 use Rattle.values.proofs.code_of.Reads as code-of-reads
+use Rattle.values.proofs.fixed_width.Reads as fixed-width-reads
 use Rattle.values.proofs.open_compound.Reads as open-compound-reads
 use Rattle.values.proofs.variable.Reads as variable-reads
 use Rattle.values.proofs.width.Reads as width-reads
@@ -95,7 +96,7 @@ items-below t = and 1 items-kinds.ps (falls 1 items-kinds.ps _<_ μ-items t) ite
 -- ---- bodies
 
 abbrev bodies-calls : ℕ → bodies-lts.Claims
-bodies-calls t = (bytes-reads.Asked, bytes-reads.Learnt, body-below t, body.Post)
+bodies-calls t = (fixed-width-reads.Asked, fixed-width-reads.Learnt, bytes-reads.Asked, bytes-reads.Learnt, body-below t, body.Post)
 
 abbrev bodies-Inv-loop : bodies-lts.InvT-loop
 bodies-Inv-loop s depth count kind at₀ i₀ at i = (i ≤ count) × (at ≤ length s) × (times count (D.body (run depth) (kindSaid kind)) s ≡ left (D.body (run depth) (kindSaid kind)) s count i at)
@@ -105,6 +106,9 @@ bodies-μ-loop s depth count kind at₀ i₀ at i = count - i
 
 bodies-enum-known-kind : (t : ℕ) → bodies-lts.Need-enum-known-kind (bodies-calls t) (bodies-at t) bodies.Post bodies-Inv-loop bodies-μ-loop
 bodies-enum-known-kind t c = search bodies-steps
+
+bodies-fixed-width-requires : (t : ℕ) → bodies-lts.Need-fixed-width-requires (bodies-calls t) (bodies-at t) bodies.Post bodies-Inv-loop bodies-μ-loop
+bodies-fixed-width-requires t c κs = search bodies-steps
 
 bodies-cast-bytes : (t : ℕ) → bodies-lts.Need-cast-bytes (bodies-calls t) (bodies-at t) bodies.Post bodies-Inv-loop bodies-μ-loop
 bodies-cast-bytes t c = search bodies-steps
@@ -160,10 +164,13 @@ bodies-returns-3 t c = search bodies-steps
 -- ---- body
 
 abbrev body-calls : ℕ → body-lts.Claims
-body-calls t = (bytes-reads.Asked, bytes-reads.Learnt, boolean-reads.Asked, boolean-reads.Learnt, variable-reads.Asked, variable-reads.Learnt, compound-below t, compound.Post)
+body-calls t = (fixed-width-reads.Asked, fixed-width-reads.Learnt, bytes-reads.Asked, bytes-reads.Learnt, boolean-reads.Asked, boolean-reads.Learnt, variable-reads.Asked, variable-reads.Learnt, compound-below t, compound.Post)
 
 body-enum-known-kind : (t : ℕ) → body-lts.Need-enum-known-kind (body-calls t) (body-at t) body.Post
 body-enum-known-kind t c = search body-steps
+
+body-fixed-width-requires : (t : ℕ) → body-lts.Need-fixed-width-requires (body-calls t) (body-at t) body.Post
+body-fixed-width-requires t c κs = search body-steps
 
 body-cast-bytes : (t : ℕ) → body-lts.Need-cast-bytes (body-calls t) (body-at t) body.Post
 body-cast-bytes t c = search body-steps
@@ -438,8 +445,8 @@ items-returns-3 t c = search items-steps
 pub +bodies+body+compound+constructor+items-spec : {M : Type 1} → statement M
 +bodies+body+compound+constructor+items-spec =
     close μ-bodies μ-body μ-compound μ-constructor μ-items
-    (λ t. bodies-lts.spec (bodies-calls t) (bodies-at t) bodies.Post bodies-Inv-loop bodies-μ-loop (bodies-enum-known-kind t) (bodies-cast-bytes t) (bodies-mul-bytes t) (bodies-bytes-requires t) (bodies-returns t) (bodies-loop-holds t) (bodies-sub-body t) (bodies-part-body-start t) (bodies-part-body-end t) (bodies-body-requires t) (bodies-enum-known-n t) (bodies-enum-told t) (bodies-returns-2 t) (bodies-add-at t) (bodies-add-i t) (bodies-loop-less t) (bodies-loop-again t) (bodies-returns-3 t))
-    (λ t. body-lts.spec (body-calls t) (body-at t) body.Post (body-enum-known-kind t) (body-cast-bytes t) (body-bytes-requires t) (body-enum-told t) (body-boolean-requires t) (body-enum-known-kind-2 t) (body-variable-requires t) (body-enum-known-kind-3 t) (body-compound-requires t) (body-returns t) (body-returns-2 t) (body-returns-3 t) (body-returns-4 t))
+    (λ t. bodies-lts.spec (bodies-calls t) (bodies-at t) bodies.Post bodies-Inv-loop bodies-μ-loop (bodies-enum-known-kind t) (bodies-fixed-width-requires t) (bodies-cast-bytes t) (bodies-mul-bytes t) (bodies-bytes-requires t) (bodies-returns t) (bodies-loop-holds t) (bodies-sub-body t) (bodies-part-body-start t) (bodies-part-body-end t) (bodies-body-requires t) (bodies-enum-known-n t) (bodies-enum-told t) (bodies-returns-2 t) (bodies-add-at t) (bodies-add-i t) (bodies-loop-less t) (bodies-loop-again t) (bodies-returns-3 t))
+    (λ t. body-lts.spec (body-calls t) (body-at t) body.Post (body-enum-known-kind t) (body-fixed-width-requires t) (body-cast-bytes t) (body-bytes-requires t) (body-enum-told t) (body-boolean-requires t) (body-enum-known-kind-2 t) (body-variable-requires t) (body-enum-known-kind-3 t) (body-compound-requires t) (body-returns t) (body-returns-2 t) (body-returns-3 t) (body-returns-4 t))
     (λ t. compound-lts.spec (compound-calls t) (compound-at t) compound.Post (compound-open-compound-requires t) (compound-enum-known-size t) (compound-enum-told t) (compound-returns t) (compound-width-requires t) (compound-add-from t) (compound-cast-end t) (compound-add-end t) (compound-sub-items t) (compound-part-items-start t) (compound-part-items-end t) (compound-items-requires t) (compound-enum-known-n t) (compound-enum-told-2 t) (compound-returns-2 t) (compound-add-if1 t) (compound-returns-3 t) (compound-returns-4 t))
     (λ t. constructor-lts.spec (constructor-calls t) (constructor-at t) constructor.Post (constructor-returns t) (constructor-shared-slice-read-c t) (constructor-returns-2 t) (constructor-sub-inner t) (constructor-sub-constructor t) (constructor-part-constructor-start t) (constructor-part-constructor-end t) (constructor-constructor-requires t) (constructor-enum-known-n t) (constructor-enum-told t) (constructor-returns-3 t) (constructor-add-next t) (constructor-sub-constructor-2 t) (constructor-part-constructor-start-2 t) (constructor-part-constructor-end-2 t) (constructor-constructor-requires-2 t) (constructor-enum-known-m t) (constructor-enum-told-2 t) (constructor-returns-4 t) (constructor-add-end t) (constructor-returns-5 t) (constructor-code-of-requires t) (constructor-enum-known-kind t) (constructor-enum-told-3 t) (constructor-returns-6 t) (constructor-returns-7 t) (constructor-returns-8 t) (constructor-sub-inner-2 t) (constructor-sub-bodies t) (constructor-part-bodies-start t) (constructor-part-bodies-end t) (constructor-bodies-requires t) (constructor-enum-known-n-2 t) (constructor-enum-told-4 t) (constructor-returns-9 t) (constructor-add-end-2 t) (constructor-returns-10 t))
     (λ t. items-lts.spec (items-calls t) (items-at t) items.Post items-Inv-loop items-μ-loop (items-enum-told t) (items-constructor-requires t) (items-returns t) (items-loop-holds t) (items-sub-constructor t) (items-part-constructor-start t) (items-part-constructor-end t) (items-constructor-requires-2 t) (items-enum-known-n t) (items-enum-told-2 t) (items-returns-2 t) (items-add-at t) (items-add-i t) (items-loop-less t) (items-loop-again t) (items-returns-3 t))

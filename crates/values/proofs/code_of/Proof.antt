@@ -1,14 +1,29 @@
--- `code_of`: by the number that the table has for the code, with the rule of the whole table.
+-- `code_of`: by the bits that the code has in the words, with the rule of all codes.
 -- Assumes nothing.
 use mathlib.Core.Path.{refl}
 use borrow.Author.Needs.{needs}
 use Rattle.values.specs.Value.{kindIn}
-use Rattle.values.proofs.Table.{kindNamed, entry, named-fixed, named-else}
+use Rattle.values.proofs.Table.{kindNamed, entry, named-else}
 use Rattle.values.proofs.code_of.Statement.{statement}
 use Rattle.values.proofs.code_of.Tie as tie
 
-array-read-n : tie.Need-array-read-n
-array-read-n c = search needs
+cast-word : tie.Need-cast-word
+cast-word c = search needs
+
+mul-word : tie.Need-mul-word
+mul-word c = search needs
+
+array-read-word : tie.Need-array-read-word
+array-read-word c = search needs
+
+mul-match : tie.Need-mul-match
+mul-match c = search needs
+
+cast-match : tie.Need-cast-match
+cast-match c = search needs
+
+shr-match : tie.Need-shr-match
+shr-match c = search needs
 
 returns : tie.Need-returns
 unfolding kindNamed kindIn
@@ -47,16 +62,22 @@ unfolding kindNamed kindIn
 returns-9 c = entry (c .before .args .c) _ _ (search needs) (c .match .keys9) refl
 
 returns-10 : tie.Need-returns-10
-returns-10 c = entry (c .before .before .args .c) _ _ (search needs) refl (search named-fixed)
+unfolding kindNamed kindIn
+returns-10 c = entry (c .before .args .c) _ _ (search needs) (c .match .keys10) refl
 
 returns-11 : tie.Need-returns-11
-returns-11 c = entry (c .before .before .args .c) _ _ (search needs) refl (search named-else)
+returns-11 c = entry (c .before .args .c) _ _ (search needs) refl (search named-else)
 
 pub code-of-spec : {M : Type 1} → statement M
 code-of-spec =
     tie.close
     (tie.spec
-    array-read-n
+    cast-word
+    mul-word
+    array-read-word
+    mul-match
+    cast-match
+    shr-match
     returns
     returns-2
     returns-3
