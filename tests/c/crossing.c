@@ -641,9 +641,11 @@ static uint8_t *long_transfer(size_t n)
     return bytes;
 }
 
+static const char *const OPEN_OF_500 = "005310 C0 0A 03 A10168 40 70000001F4";
+
 static void too_long(Tally *t)
 {
-    Piece open_of_500 = frame(0, "005310 C0 0A 03 A10168 40 70000001F4");
+    Piece open_of_500 = frame(0, OPEN_OF_500);
     uint8_t *longest = long_transfer(512), *longer = long_transfer(513);
     Engine e = new_engine(t, 0, p1());
     open_with(&e, of(&open_of_500));
@@ -698,30 +700,51 @@ static void waiting_room(Tally *t)
     }
 }
 
+/* A frame, and behind it one of 513 bytes, which is too long for a peer that takes 500. */
+static Piece and_too_long(Piece first)
+{
+    uint8_t *longer = long_transfer(513);
+    memcpy(first.at + first.len, longer, 513);
+    first.len += 513;
+    free(longer);
+    return first;
+}
+
 /* Waiting frames that cannot be sent: those before them go out, and the error path decides the rest. */
 static void waiting_unsent(Tally *t)
 {
-    Piece open_of_500 = frame(0, "005310 C0 0A 03 A10168 40 70000001F4"), close = frame(0, CLOSE), good = frame(0, TRANSFER), begins = begin_for(2, 1);
+    Piece open_of_500 = frame(0, OPEN_OF_500), close = frame(0, CLOSE), good = frame(0, TRANSFER), waiting = and_too_long(good), both = joined(good, begin_for(2, 1));
     Piece told = close_with("amqp:not-found", "Outgoing channel is not found"), after_good = joined(good, told);
-    uint8_t *longer = long_transfer(513), waiting[600];
-    size_t len = good.len + 513;
-    memcpy(waiting, good.at, good.len);
-    memcpy(waiting + good.len, longer, 513);
-    free(longer);
     Engine closing = new_engine(t, 1, p1()), closed = new_engine(t, 1, p1());
     open_with(&closing, of(&open_of_500));
     open_with(&closed, of(&open_of_500));
-    Said said = close_order(&closing, (Bytes){ waiting, len });
+    Said said = close_order(&closing, of(&waiting));
     check(t, said.kind == HISPROAT_KIND_REFUSED && said.detail == 27 && same(wire(&closing), of(&good)), "a waiting frame that is too long, at a close order");
     ends_with(&closing, said, HISPROAT_OUTCOME_TRANSPORT_ERROR, "no Close is sent");
-    said = incoming_while(&closed, of(&close), (Bytes){ waiting, len });
+    said = incoming_while(&closed, of(&close), of(&waiting));
     check(t, said.kind == HISPROAT_KIND_CLOSED && same(wire(&closed), of(&good)), "a waiting frame that is too long, at the peer's Close");
     ends_with(&closed, said, HISPROAT_OUTCOME_TRANSPORT_ERROR, "no Close is sent");
-    Piece both = joined(good, begins);
     closed = opened(t, 1);
     said = incoming_while(&closed, of(&close), of(&both));
     check(t, said.kind == HISPROAT_KIND_CLOSED && same(wire(&closed), of(&after_good)), "a waiting Begin on a channel that is not taken");
     ends_with(&closed, said, HISPROAT_OUTCOME_NOT_FOUND, "the peer's Close is answered with the error");
+}
+
+/* A Close in CloseReceived is not allowed, and answered nonetheless, behind the frames that wait; one of them that cannot be sent decides the outcome. No event leads to that state: its byte does. */
+static void second_close(Tally *t)
+{
+    Piece open_of_500 = frame(0, OPEN_OF_500), close = frame(0, CLOSE), good = frame(0, TRANSFER), waiting[] = { good, joined(good, begin_for(2, 1)), and_too_long(good) };
+    Piece written[] = { joined(good, close), joined(good, close_with("amqp:not-found", "Outgoing channel is not found")), good };
+    static const uint8_t OUTCOMES[] = { HISPROAT_OUTCOME_ILLEGAL_STATE, HISPROAT_OUTCOME_NOT_FOUND, HISPROAT_OUTCOME_TRANSPORT_ERROR };
+    for (size_t i = 0; i < 3; i++) {
+        Engine e = new_engine(t, 1, p1());
+        open_with(&e, of(&open_of_500));
+        e.state.at[6] = HISPROAT_STATE_CLOSE_RECEIVED;
+        Said said = incoming_while(&e, of(&close), of(&waiting[i]));
+        check(t, said.kind == HISPROAT_KIND_REFUSED && said.detail == 20, "a Close in CloseReceived");
+        check(t, same(wire(&e), of(&written[i])), "what is written then");
+        ends_with(&e, said, OUTCOMES[i], "the outcome is that of the Close, or of the frame that cannot be sent");
+    }
 }
 
 static void transport_error(Tally *t)
@@ -738,6 +761,7 @@ static void transport_error(Tally *t)
     too_long_for_any(t);
     waiting_room(t);
     waiting_unsent(t);
+    second_close(t);
     Engine e = awaiting(t);
     ends_with(&e, end_of_input(&e), HISPROAT_OUTCOME_TRANSPORT_ERROR, "the input ends while the peer's Close is awaited");
     e = opened(t, 0);
