@@ -752,7 +752,7 @@ static int is_close(const uint8_t *frame)
     return hisproat_number(frame, 4) > 8 && hisproat_number(frame + 10, frame[9] == 0x53 ? 1 : 8) == 0x18;
 }
 
-/* The outcome of a Close that came in CloseReceived, where none is allowed. The frames that wait are sent first, and then a Close without an error. One that is over the writing limit ends it
+/* The outcome of a Close that came in CloseReceived, where none is allowed, while frames wait. They are sent first, and then a Close without an error. One that is over the writing limit ends it
  * there; one for no session has a Close with an error written. */
 static uint8_t second_close(const Round *r, const uint8_t *now)
 {
@@ -779,7 +779,7 @@ static void check_error_path(const Round *r, const Call *c, const uint8_t *s)
     demand(now[AT_PHASE] == HISPROAT_PHASE_STOPPED || (now[AT_PHASE] == HISPROAT_PHASE_AWAITING && outcome != HISPROAT_OUTCOME_TRANSPORT_ERROR),
            "after a refusal inside the engine goes on");
     if (c->function == ON_INCOMING && s[AT_PHASE] == HISPROAT_PHASE_RUNNING && s[AT_STATE] == HISPROAT_STATE_CLOSE_RECEIVED &&
-        detail == HISPROAT_REFUSED_ILLEGAL_STATE && is_close(c->in[0].at))
+        detail == HISPROAT_REFUSED_ILLEGAL_STATE && is_close(c->in[0].at) && waiting_frames(c).len > 0)
         outcome = second_close(r, now);
     demand(now[AT_OUTCOME] == outcome, "a refusal inside leads to another outcome");
 }
