@@ -65,8 +65,9 @@ passed "a width is the few instructions that the document shows"
 
 # the bound on instructions, and that it can fail
 gcc -std=c11 -O2 "${warnings[@]}" tests/c/linear.c "$reader" "$archive" -o "$work/linear"
-python3 tests/linear.py "$work/linear"
-if python3 tests/linear.py "$work/linear" slow > "$work/slow.log" 2>&1; then
+tests/prove.sh check bench
+python3 tests/linear.py "$work/linear" target/bin/bench
+if python3 tests/linear.py "$work/linear" target/bin/bench slow > "$work/slow.log" 2>&1; then
     echo "c.sh: the bound does not notice a reader that goes over what is claimed" >&2
     exit 1
 fi

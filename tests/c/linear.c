@@ -1,6 +1,6 @@
 /*
  * Frames for a bound on instructions: reading takes some for each byte that is there, and none for what a frame only claims. Usage: linear [slow]
- * A line is printed for each reading: how the frame is read, how many bytes it has, and its name. tests/linear.py runs this under callgrind, which counts inside
+ * A line is printed for each reading: how the frame is read (`typical` frames by the frame reader), how many bytes it has, and its name. tests/linear.py runs this under callgrind, which counts inside
  * `measured`. With `slow` each reading also takes a step for each element that the frame claims, at most 100,000 of them: the bound must notice that.
  */
 #include "hisproat.h"
@@ -219,14 +219,56 @@ static void ordinary(Frame *f, size_t bytes)
     grown(f, 0xD0, "", "5601", bytes, "a list of booleans");
     grown(f, 0xD0, "", "A10161", bytes, "a list of strings");
     grown(f, 0xD0, "", "00530140", bytes, "a list of described nulls");
+    grown(f, 0xD0, "", "004040", bytes, "a list of nulls that nulls describe");
+    grown(f, 0xD0, "", "0000404040", bytes, "a list of values that described values describe");
+    grown(f, 0xD0, "", "0040004040", bytes, "a list of described described values");
+    grown(f, 0xD0, "", "C00100", bytes, "a list of lists without elements");
     grown(f, 0xD0, "", "C00B01C00801C00501C0020140", bytes, "a list of lists in lists");
+    grown(f, 0xD0, "", "C02301C02001C01D01C01A01C01701C01401C01101C00E01C00B01C00801C00501C0020140", bytes, "a list of lists, twelve deep");
+    grown(f, 0xD0, "", "C10100", bytes, "a list of empty maps");
     grown(f, 0xD0, "", "E0020040", bytes, "a list of empty arrays");
+    grown(f, 0xD0, "", "E003015601", bytes, "a list of arrays of a boolean");
+    grown(f, 0xD0, "", "E00402004040", bytes, "a list of arrays of described nulls");
     grown(f, 0xD0, "", "F000000005FFFFFFFF40", bytes, "a list of arrays that claim the most");
     grown(f, 0xD1, "", "40", bytes, "a map of nulls");
     grown(f, 0xF0, "50", "FF", bytes, "an array of octets");
     grown(f, 0xF0, "56", "01", bytes, "an array of booleans");
     grown(f, 0xF0, "A0", "0161", bytes, "an array of binary");
+    grown(f, 0xF0, "A0", "00", bytes, "an array of empty binary");
     grown(f, 0xF0, "C0", "0100", bytes, "an array of empty lists");
+    grown(f, 0xF0, "C0", "020140", bytes, "an array of lists of a null");
+    grown(f, 0xF0, "C0", "0401004040", bytes, "an array of lists of a described null");
+    grown(f, 0xF0, "C1", "0100", bytes, "an array of empty maps");
+    grown(f, 0xF0, "E0", "020140", bytes, "an array of arrays of a null");
+    grown(f, 0xF0, "E0", "020240", bytes, "an array of arrays of two nulls");
+    grown(f, 0xF0, "E0", "1A01E01701E01401E01101E00E01E00B01E00801E00501E0020140", bytes, "an array of arrays, nine deep");
+}
+
+/* Frames as peers send them. */
+static void typical(Frame *f)
+{
+    static const struct {
+        const char *bytes;
+        const char *name;
+    } TYPICAL[] = {
+        { "005310C01205A1047061643140700000400060000752FF", "an Open" },
+        { "005311C00A04404370000000645264", "a Begin" },
+        { "005313C0100943526443526452015200520A520041", "a Flow" },
+        { "005314C00D0552035207A004010203044341005375A0156C616E652034207072657373657320303030323137", "a Transfer" },
+        { "005315C00B0541520152034100532445", "a Disposition" },
+        { "005317C0170100531DC01101A30E616D71703A6E6F742D616C6C6F77", "an End with an error" },
+    };
+    for (size_t i = 0; i < sizeof TYPICAL / sizeof TYPICAL[0]; i++) {
+        start(f, 0);
+        f->len = 8;
+        put_hex(f, TYPICAL[i].bytes);
+        set_number(f, 0, f->len);
+        printf("typical %zu %s\n", f->len, TYPICAL[i].name);
+        if (measured(READER, f) != 0) {
+            printf("linear: %s is refused\n", TYPICAL[i].name);
+            exit(1);
+        }
+    }
 }
 
 /* A Transfer with a payload of so many bytes, which is not read. */
@@ -274,6 +316,7 @@ int main(int argc, char **argv)
         claims(&f, COUNTS[i]);
     nested_claims(&f);
     false_claims(&f);
+    typical(&f);
     for (size_t i = 0; i < sizeof SIZES / sizeof SIZES[0]; i++) {
         ordinary(&f, SIZES[i]);
         payload(&f, SIZES[i]);

@@ -1,18 +1,20 @@
 // Does an operation of an engine, or of the connection inside it, so many times over, for measuring what an event and a call cost.
 //
-// Each line of standard input names what the operation is done on, `engine` or `connection`, the operation, how many sessions are open, from 1 to 256,
+// Each line of standard input names what the operation is done on, `engine`, `connection` or `frame`, the operation, how many sessions are open, from 1 to 256,
 // and how many rounds there are:
 //
 //   transfer  a Transfer is received, on each tied channel in turn
 //   pair      a session is deallocated and its channel allocated again, on each channel in turn
 //   open      an Open is received, each time by the same hub, which waits for it and has no session
 //   tick      an empty frame is written; by a connection, after a Transfer was received as above
+//   write     a Transfer is written; of a frame alone, without a connection
 //
 // The line is printed with the sum of the answers: for `transfer` the handles, for `pair` the handles and the channels, for `open` the idle-time-outs,
-// for `tick` the bytes written and the handles; and once the number of sessions, or for `open` the first channel.
+// for `tick` the bytes written and the handles, for `write` the bytes written; and once the number of sessions, or for `open` the first channel.
 mod answers;
 mod calls;
 mod events;
+mod frames;
 mod setting;
 
 use libc::STDOUT_FILENO;
@@ -80,6 +82,9 @@ fn run(line: &[u8], last: u8, rounds: u64, out: &mut [u8]) -> u64 {
     let letter = letter(word(line, 1));
     if line.len() == 0 {
         return 0;
+    }
+    if line[0] == b'f' {
+        return frames::writes(rounds, out);
     }
     if line[0] == b'c' {
         return run_calls(letter, last, rounds, out);

@@ -10,7 +10,8 @@ pub enum Written {
     Refused(u8),
 }
 
-fn wide(b: u8) -> u64
+// A byte as a number.
+pub fn wide(b: u8) -> u64
     ensures { λ r. ⌜ (r ≡ b) × (r < 256) ⌝ }
 {
     b as u64

@@ -4,10 +4,10 @@ use mathlib.Core.Path.{_≡_, refl, sym, ap, _∙_, subst}
 use mathlib.Core.Bool.{Bool, true, false, cond, not}
 use mathlib.Core.List.{List, [], _∷_}
 use mathlib.Core.Option.{some}
-use Prim.Native.Nat.{ℕ, zero, suc, _+_, _≤_}
+use Prim.Native.Nat.{ℕ, zero, suc, _+_, _-_, _≤_}
 use native.Mathlib.Omega.{arith}
 use lib.ListN.{length, take, drop, getD}
-use lib.Seq.{drop-drop, drop-nil, length-take-le}
+use lib.Seq.{drop-nil, take-nil, length-take-le}
 use Rattle.octets.specs.Verdict.{refuse, accept}
 use Rattle.octets.specs.Octets.{startsWith}
 use Rattle.octets.proofs.Laws.{require-was}
@@ -17,9 +17,10 @@ use Rattle.values.proofs.Apart.{accepted, then-was}
 use Rattle.values.proofs.Laws.{value-within, value-some}
 use Rattle.performatives.specs.Fields.{UShort, UInt, Field, fieldIn}
 use Rattle.performatives.specs.Performative.{hasType, fits, fit, split, fieldsBy, startOf}
-use Rattle.performatives.specs.Inner.{skip, item, orNull, valueAt}
+use Rattle.performatives.specs.Inner.{next, skip, item, orNull, valueAt}
 use Rattle.performatives.proofs.Bools.{and-first, and-second}
 use Rattle.performatives.proofs.Codes.{narrow, widthBelow, narrow-ends}
+use Rattle.performatives.proofs.Found.{skip-front, item-front}
 use Rattle.performatives.proofs.Placed.{item-whole}
 
 -- fields that fit are split off
@@ -60,15 +61,20 @@ nothing = refl
 -- ---- where they are found
 
 start-next : (i : ℕ) (s : List ℕ) (n : ℕ) (fs rest : List (List ℕ)) → valueEnd 16 s ≡ accept n → fs ≡ take n s ∷ rest → skip i (drop n s) ≡ startOf i rest → skip (suc i) s ≡ startOf (suc i) fs
-unfolding skip startOf
+unfolding startOf
 start-next i s n fs rest e w h =
     let l = length-take-le n s (value-within 16 s n e) in
-    rw (e, w, l) (ap (λ (x : ℕ). n + x) h)
+    skip-front i s n e ∙ rw (w, l) (ap (λ (x : ℕ). n + x) h)
+
+skip-nothing : (i : ℕ) → skip i [] ≡ 0
+unfolding skip next
+skip-nothing zero = refl
+skip-nothing (suc i) = rw (skip-nothing i, nothing)
 
 start-none : (i : ℕ) (s : List ℕ) (fs : List (List ℕ)) → s ≡ [] → fs ≡ [] → skip i s ≡ startOf i fs
-unfolding skip startOf
-start-none zero s fs p q = refl
-start-none (suc i) s fs p q = rw (p, q, nothing)
+unfolding startOf
+start-none zero s fs p q = rw p (skip-nothing 0)
+start-none (suc i) s fs p q = rw (p, q) (skip-nothing (suc i))
 
 start-zero : (s : List ℕ) (fs : List (List ℕ)) → skip 0 s ≡ startOf 0 fs
 unfolding skip startOf
@@ -82,23 +88,24 @@ found-start (suc i) (suc k) s fs e =
     start-next i s (p .size) fs (p .rest) (p .ends) (p .whole) (found-start i k (drop (p .size) s) (p .rest) (p .others))
 
 value-next : (i : ℕ) (s : List ℕ) (n : ℕ) (fs rest : List (List ℕ)) → valueEnd 16 s ≡ accept n → fs ≡ take n s ∷ rest → valueAt i (drop n s) ≡ getD rest i null → valueAt (suc i) s ≡ getD fs (suc i) null
-unfolding valueAt item skip
-value-next i s n fs rest e w h = rw (e, w, ← drop-drop (skip i (drop n s)) n s) h
+unfolding valueAt
+value-next i s n fs rest e w h = rw (item-front i s n e, w) h
 
 value-none : (i : ℕ) (s : List ℕ) (fs : List (List ℕ)) → s ≡ [] → fs ≡ [] → valueAt i s ≡ getD fs i null
 unfolding valueAt item
-value-none i s fs p q = rw (p, q, drop-nil, nothing)
+value-none i s fs p q = rw (p, q, drop-nil, take-nil)
 
 there : (f : List ℕ) → 1 ≤ length f → orNull f ≡ f
 there [] h = absurd (omega arith)
 there (x ∷ f) h = refl
 
 value-first : (s : List ℕ) (n : ℕ) (fs rest : List (List ℕ)) → valueEnd 16 s ≡ accept n → fs ≡ take n s ∷ rest → valueAt 0 s ≡ getD fs 0 null
-unfolding valueAt item skip
+unfolding valueAt item skip next
 value-first s n fs rest e w =
     let l = length-take-le n s (value-within 16 s n e) in
     let m = value-some 16 s n e in
-    rw (e, w) (there (take n s) (omega arith))
+    let k : (0 + n) - 0 ≡ n = omega arith in
+    rw (e, w, k) (there (take n s) (omega arith))
 
 pub found-value : (i k : ℕ) (s : List ℕ) (fs : List (List ℕ)) → split 16 k s ≡ accept fs → valueAt i s ≡ getD fs i null
 found-value i zero s fs e = let n = split-none s fs e in value-none i s fs (n .0) (n .1)

@@ -1,4 +1,4 @@
--- Described lists: what each step of `descriptor_at` and `described_list` shows. `v` is the answer of a function that was called, with what that
+-- Described lists: what each step of `descriptor_at` and `any_described` shows. `v` is the answer of a function that was called, with what that
 -- ensures and what it was opened as.
 -- Assumes nothing.
 use mathlib.Core.Path.{_≡_, sym, ap, _∙_}
@@ -18,10 +18,10 @@ use Rattle.values.specs.declared.Value.{Value}
 use Rattle.values.specs.declared.Value.the-variants.{End, Malformed}
 use Rattle.values.proofs.Cases.{tail}
 use Rattle.values.proofs.Laws.{value-within, value-some}
-use Rattle.performatives.specs.declared.Items as I
-use Rattle.performatives.specs.declared.Items.the-variants.{List as IsList, Malformed as NoList}
-use Rattle.performatives.specs.declared.Descriptor as D
-use Rattle.performatives.specs.declared.Descriptor.the-variants.{Ulong, Malformed as NoUlong}
+use Rattle.performatives.specs.declared.composite.Items as I
+use Rattle.performatives.specs.declared.composite.Items.the-variants.{List as IsList, Malformed as NoList}
+use Rattle.performatives.specs.declared.composite.Descriptor as D
+use Rattle.performatives.specs.declared.composite.Descriptor.the-variants.{Ulong, Malformed as NoUlong}
 use Rattle.performatives.specs.Inner.{itemsSays, descriptorSays}
 use Rattle.performatives.proofs.Bounds.{list-lies, descriptor-lies}
 use Rattle.performatives.specs.Performative.{Items, numberOf, listAt, descriptor, described}

@@ -1,87 +1,107 @@
--- The values of a list, found one after the other: what each step of `skip`, `item` and `is_null` shows.
+-- The values of a list, found one after the other: what each step of `next`, `skip`, `item` and `is_null` shows.
 -- Assumes nothing.
 use mathlib.Core.Path.{_≡_, refl, sym, ap, _∙_}
 use mathlib.Core.Bool.{Bool, true}
 use mathlib.Core.List.{List, [], _∷_}
-use Prim.Native.Nat.{ℕ, zero, suc, _+_, _-_, _^_, _<_, _≤_}
+use Prim.Native.Nat.{ℕ, zero, suc, _+_, _-_, _≤_}
+use native.Mathlib.Numerals.{add-one}
 use native.Mathlib.Omega.{arith}
-use mir.Syntax.{w64}
-use mir.Val.{Fits}
-use lib.ListN.{length, take, drop, length-take, length-drop}
-use lib.Seq.{length-take-le}
+use lib.ListN.{length, take, drop, length-drop}
+use lib.Seq.{drop-drop, length-take-le}
 use Rattle.octets.specs.Verdict.{Verdict, refuse, accept}
 use Rattle.octets.specs.Octets.{startsWith}
 use Rattle.values.specs.Value.{valueEnd}
 use Rattle.values.specs.Null.{null, isNull}
-use Rattle.values.specs.Answers.{ended}
-use Rattle.values.specs.declared.Value.{Value}
-use Rattle.values.specs.declared.Value.the-variants.{End, Malformed}
-use Rattle.values.proofs.Cases.{tail}
+use Rattle.values.specs.Answers.{placeAfter}
 use Rattle.values.proofs.Laws.{value-within}
-use Rattle.performatives.specs.Inner.{past, skip, item, orNull}
+use Rattle.values.proofs.Places.{place-off, place-on, place-in}
+use Rattle.performatives.specs.Inner.{afterOr, next, skip, item, orNull}
+
+-- ---- next
+
+module _ (s : List ℕ) (at end : ℕ) (p : end ≡ placeAfter at (valueEnd 16 (drop at s))) where
+  pub next-none : end ≡ 0 → at ≡ next s at
+  unfolding next
+  next-none z = rw (place-off 16 at s end p z)
+
+  pub next-is : (end ≡ 0 → ⊥) → end ≡ next s at
+  unfolding next
+  next-is z = rw (place-on 16 at s end p z) (omega (arith, place-in 16 at s end p z .0))
+
+next-after : (s : List ℕ) (at : ℕ) → at ≤ next s at
+unfolding next
+next-after s at = go (valueEnd 16 (drop at s))
+  where
+    go : (v : Verdict ℕ) → at ≤ afterOr at v
+    go (refuse k) = omega arith
+    go (accept n) = omega arith
+
+next-within : (s : List ℕ) (at : ℕ) → at ≤ length s → next s at ≤ length s
+unfolding next
+next-within s at h = go (valueEnd 16 (drop at s)) refl
+  where
+    go : (v : Verdict ℕ) → valueEnd 16 (drop at s) ≡ v → afterOr at v ≤ length s
+    go (refuse k) e = h
+    go (accept n) e = omega (arith, value-within 16 (drop at s) n e, length-drop at s)
 
 -- ---- skip
 
 pub skip-within : (i : ℕ) (s : List ℕ) → skip i s ≤ length s
 unfolding skip
 skip-within zero s = omega arith
-skip-within (suc i) s = go (valueEnd 16 s) refl (λ n. skip-within i (drop n s))
-  where
-    go : (v : Verdict ℕ) → valueEnd 16 s ≡ v → ((n : ℕ) → skip i (drop n s) ≤ length (drop n s)) → past v (λ n. skip i (drop n s)) ≤ length s
-    go (refuse k) e h = omega arith
-    go (accept n) e h = omega (arith, value-within 16 s n e, h n, length-drop n s)
+skip-within (suc i) s = next-within s (skip i s) (skip-within i s)
 
-pub skip-none : (i : ℕ) (s : List ℕ) → i ≡ 0 → 0 ≡ skip i s
+pub skip-none : (s : List ℕ) → 0 ≡ skip 0 s
 unfolding skip
-skip-none i s e = rw e
+skip-none s = refl
 
-module _ (i : ℕ) (s : List ℕ) (more : i ≡ 0 → ⊥) where
-  next : i ≡ suc (i - 1)
-  next = omega (arith, more)
+pub skip-next : (s : List ℕ) (i at end : ℕ) → at ≡ skip i s → end ≡ next s at → end ≡ skip (i + 1) s
+unfolding skip
+skip-next s i at end p q = q ∙ rw (p, add-one)
 
-  skipped : skip i s ≡ past (valueEnd 16 s) (λ n. skip (i - 1) (drop n s))
-  unfolding skip
-  skipped = ap (λ (j : ℕ). skip j s) next
+pub skip-done : (s : List ℕ) (i k at : ℕ) → at ≡ skip k s → k ≤ i → i ≤ k → at ≡ skip i s
+skip-done s i k at p l h = let e : k ≡ i = omega arith in p ∙ rw e
 
-  module _ (v : Value) (p : ended v ≡ valueEnd 16 s) where
-    pub skip-stops : v ≡ Malformed → 0 ≡ skip i s
-    skip-stops t = sym (skipped ∙ rw (← p, t))
+-- by the values that stand after the first
+next-front : (s : List ℕ) (n at : ℕ) → next s (n + at) ≡ n + next (drop n s) at
+unfolding next
+next-front s n at = rw (drop-drop at n s) (go (valueEnd 16 (drop (n + at) s)))
+  where
+    go : (v : Verdict ℕ) → afterOr (n + at) v ≡ n + afterOr at v
+    go (refuse k) = refl
+    go (accept m) = omega arith
 
-    module _ (n : ℕ) (t : v ≡ End n) (r : ℕ) (q : r ≡ skip (i - 1) (take (length s - n) (drop n s))) where
-      pub skip-fits : length s < 2 ^ 64 → Fits w64 (n + r)
-      skip-fits h =
-          omega (arith, value-within 16 s n (sym p ∙ ap ended t), skip-within (i - 1) (take (length s - n) (drop n s)), length-take (length s - n) (drop n s), length-drop n s)
-
-      pub skip-goes : n + r ≡ skip i s
-      skip-goes = sym (skipped ∙ rw (← p, t, ← tail s n, q))
-
-pub skip-falls : (i t : ℕ) → (i ≡ 0 → ⊥) → i ≡ t → i - 1 < t
-skip-falls i t h e = omega (arith, h)
+pub skip-front : (i : ℕ) (s : List ℕ) (n : ℕ) → valueEnd 16 s ≡ accept n → skip (suc i) s ≡ n + skip i (drop n s)
+unfolding skip next
+skip-front zero s n e = rw e (omega arith)
+skip-front (suc i) s n e = ap (next s) (skip-front i s n e) ∙ next-front s n (skip i (drop n s))
 
 -- ---- item
 
 module _ (i : ℕ) (s : List ℕ) (at : ℕ) (p : at ≡ skip i s) where
-  pub item-from : at ≤ length s
+  item-from : at ≤ length s
   item-from = omega (arith, skip-within i s)
 
-  module _ (v : Value) (q : ended v ≡ valueEnd 16 (take (length s - at) (drop at s))) where
-    reads : ended v ≡ valueEnd 16 (drop at s)
-    reads = rw tail at q
+  module _ (end : ℕ) (q : end ≡ next s at) where
+    pub item-ordered : at ≤ end
+    item-ordered = omega (arith, next-after s at)
 
-    pub item-none : v ≡ Malformed → take 0 (take (length s - at) (drop at s)) ≡ item i s
+    pub item-within : end ≤ length s
+    item-within = omega (arith, next-within s at item-from)
+
+    pub item-length : end - at ≡ length (take (end - at) (drop at s))
+    item-length = sym (length-take-le (end - at) (drop at s) (omega (arith, item-within, length-drop at s)))
+
+    pub item-is : take (end - at) (drop at s) ≡ item i s
     unfolding item
-    item-none t = rw (← p, ← reads, t)
+    item-is = rw (q, p)
 
-    module _ (n : ℕ) (t : v ≡ End n) where
-      pub item-within : n ≤ length (take (length s - at) (drop at s))
-      item-within = value-within 16 _ n (sym q ∙ ap ended t)
-
-      pub item-length : n ≡ length (take n (take (length s - at) (drop at s)))
-      item-length = sym (length-take-le n _ item-within)
-
-      pub item-is : take n (take (length s - at) (drop at s)) ≡ item i s
-      unfolding item
-      item-is = rw (← p, tail s at, ← reads, t)
+pub item-front : (i : ℕ) (s : List ℕ) (n : ℕ) → valueEnd 16 s ≡ accept n → item (suc i) s ≡ item i (drop n s)
+unfolding item
+item-front i s n e =
+    let k = skip i (drop n s) in
+    let d : (n + next (drop n s) k) - (n + k) ≡ next (drop n s) k - k = omega arith in
+    rw (skip-front i s n e, next-front s n k, d, drop-drop k n s)
 
 -- ---- is_null
 

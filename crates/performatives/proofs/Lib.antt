@@ -5,9 +5,11 @@ pub mod Codes
 pub mod Table
 pub mod Lists
 pub mod Descriptors
+pub mod Short
 pub mod Bounds
 pub mod Typed
 pub mod Rows
+pub mod Words
 pub mod Found
 pub mod Numbers
 pub mod Conditions

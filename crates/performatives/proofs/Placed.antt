@@ -19,7 +19,7 @@ use Rattle.performatives.specs.declared.Described.the-variants.{List as 
 use Rattle.performatives.specs.Fields.{Error}
 use Rattle.performatives.specs.Performative.{Described, described, isError, hasType, fits, whenNot, textAt, conditionAt}
 use Rattle.performatives.specs.Answers.{describedSays}
-use Rattle.performatives.specs.Inner.{skip, front, item, orNull, valueAt, textFrom}
+use Rattle.performatives.specs.Inner.{afterOr, next, skip, item, orNull, valueAt, textFrom}
 use Rattle.performatives.proofs.Lists.{part-is}
 use Rattle.performatives.proofs.Bounds.{described-lies}
 use Rattle.performatives.proofs.Conditions.{error-text}
@@ -76,23 +76,25 @@ module _ (f : List ℕ) (at : ℕ) (v : D.Described) (p : describedSays v ≡ de
 
 -- a value that was found is whole, and lies in s
 module _ (i : ℕ) (s : List ℕ) where
+  -- its bytes, by where it ends
+  abbrev part : Verdict ℕ → List ℕ
+  part v = take (afterOr (skip i s) v - skip i s) (drop (skip i s) s)
+
   pub item-lies : skip i s + length (item i s) ≤ length s
   unfolding item
-  item-lies = go (valueEnd 16 (drop (skip i s) s))
-    where
-      go : (v : Verdict ℕ) → skip i s + length (front v (drop (skip i s) s)) ≤ length s
-      go (refuse k) = omega (arith, skip-within i s)
-      go (accept n) = omega (arith, skip-within i s, length-take n (drop (skip i s) s), length-drop (skip i s) s)
+  item-lies =
+      omega (arith, skip-within i s, length-take (next s (skip i s) - skip i s) (drop (skip i s) s), length-drop (skip i s) s)
 
   pub item-whole : 1 ≤ length (item i s) → valueEnd 16 (item i s) ≡ accept (length (item i s))
-  unfolding item
+  unfolding item next
   item-whole = go (valueEnd 16 (drop (skip i s) s)) refl
     where
-      go : (v : Verdict ℕ) → valueEnd 16 (drop (skip i s) s) ≡ v → 1 ≤ length (front v (drop (skip i s) s)) → valueEnd 16 (front v (drop (skip i s) s)) ≡ accept (length (front v (drop (skip i s) s)))
-      go (refuse k) e h = absurd (omega arith)
+      go : (v : Verdict ℕ) → valueEnd 16 (drop (skip i s) s) ≡ v → 1 ≤ length (part v) → valueEnd 16 (part v) ≡ accept (length (part v))
+      go (refuse k) e h = absurd (omega (arith, length-take (skip i s - skip i s) (drop (skip i s) s)))
       go (accept n) e h =
+          let d : (skip i s + n) - skip i s ≡ n = omega arith in
           let l = length-take-le n (drop (skip i s) s) (value-within 16 _ n e) in
-          rw l (ap (valueEnd 16) (sym (append-nil (take n (drop (skip i s) s)))) ∙ value-local 16 _ n e [])
+          rw (d, l) (ap (valueEnd 16) (sym (append-nil (take n (drop (skip i s) s)))) ∙ value-local 16 _ n e [])
 
 module _ (i : ℕ) (s f : List ℕ) (p : f ≡ item i s) (b : Bool) (q : b ≡ isNull (orNull f)) (from : ℕ) where
   at-field : valueAt i s ≡ orNull f

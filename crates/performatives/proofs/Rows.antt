@@ -1,34 +1,30 @@
--- Fields by their rows: what each step of `fields` shows, for all rows together.
+-- Fields by their rows: what each step of `suits` and `fields` shows, for all rows together.
 -- Assumes nothing.
 use mathlib.Core.Path.{_≡_, refl, sym, ap, _∙_}
-use mathlib.Core.Bool.{Bool, true, false, _&&_, and-false}
+use mathlib.Core.Bool.{Bool, true, false, cond, not, _&&_, and-false, and-true}
 use mathlib.Core.List.{List, [], _∷_}
 use mathlib.Core.Option.{Option, none, some}
-use Prim.Native.Nat.{ℕ, zero, suc, _+_, _-_, _<_, _≤_}
+use Prim.Native.Nat.{ℕ, zero, suc, _+_, _-_, _*_, _/_, _%_, _^_, _<_, _≤_}
+use native.Mathlib.Nat.{sub-zero}
 use native.Mathlib.Numerals.{add-one}
 use native.Mathlib.Omega.{arith}
-use mir.Syntax.{w64}
-use mir.Val.{Fits}
 use lib.Dec.{eqb, leb}
-use lib.Seq.{drop-nil, length-take-le}
-use lib.ListN.{length, take, drop}
-use borrow.Author.Tests.{ne-eqb, leb-true, leb-false}
+use lib.Seq.{drop-nil, drop-drop}
+use lib.ListN.{length, take, drop, length-drop}
+use borrow.Author.Tests.{eq-eqb, ne-eqb, le-leb, lt-leb}
 use Rattle.octets.specs.Verdict.{Verdict, refuse, accept, require, andThen, accepts}
-use Rattle.octets.specs.Octets.{startsWith}
 use Rattle.values.specs.Value.{valueEnd}
-use Rattle.values.specs.Answers.{ended}
-use Rattle.values.specs.declared.Value.{Value}
-use Rattle.values.specs.declared.Value.the-variants.{End, Malformed}
-use Rattle.values.proofs.Cases.{tail}
-use Rattle.values.proofs.Laws.{value-within}
+use Rattle.values.specs.Null.{isNull}
+use Rattle.values.specs.Answers.{placeAfter}
+use Rattle.values.proofs.Places.{place-off, place-on, place-in}
 use Rattle.performatives.specs.declared.FieldType as C
 use Rattle.performatives.specs.declared.Default as D
 use Rattle.performatives.specs.declared.Row as R
 use Rattle.performatives.specs.declared.Row.the-variants.{Field as IsField, Past}
 use Rattle.performatives.specs.Fields.{Field, fieldsOf, fieldIn, fieldOf, fieldAt}
-use Rattle.performatives.specs.Performative.{fits, fit, split, fieldsBy}
-use Rattle.performatives.specs.Answers.{typeSays, defaultSays, rowSays}
-use Rattle.performatives.specs.Inner.{rowsIn, rowsFrom}
+use Rattle.performatives.specs.Performative.{hasType, fits, fit, split, fieldsBy}
+use Rattle.performatives.specs.Answers.{typeSays, rowSays}
+use Rattle.performatives.specs.Inner.{rowsIn, rowsFrom, rowIn, rowNamed, RowsIn, suits}
 use Rattle.performatives.proofs.Table.{row-past}
 
 -- ---- the rows from field i on
@@ -55,35 +51,15 @@ unfolding fieldOf
 one-of none i r e = let z : _≡_ {A = ℕ} 0 1 = cc in absurd (omega arith)
 one-of (some rows) i r e = one-left rows i r e
 
-module _ (code i : ℕ) (v : R.Row) (p : rowSays v ≡ fieldAt code i) where
-  rows-none : v ≡ Past → rowsFrom code i ≡ []
-  unfolding rowsFrom fieldAt
-  rows-none t = none-of (fieldsOf code) i (sym p ∙ ap rowSays t)
+pub none-from : (code i : ℕ) → fieldAt code i ≡ none → rowsFrom code i ≡ []
+unfolding rowsFrom fieldAt
+none-from code i e = none-of (fieldsOf code) i e
 
-  module _ (kind : C.FieldType) (mandatory : Bool) (default : D.Default) (t : v ≡ IsField kind mandatory default) where
-    is : fieldAt code i ≡ some (record { type = typeSays kind; mandatory = mandatory; default = defaultSays default })
-    is = sym p ∙ ap rowSays t
-
-    rows-more : rowsFrom code i ≡ (record { type = typeSays kind; mandatory = mandatory; default = defaultSays default }) ∷ rowsFrom code (i + 1)
-    unfolding rowsFrom fieldAt
-    rows-more = one-of (fieldsOf code) i _ is ∙ rw add-one
-
-    row-few : i < 14
-    row-few = go (leb 14 i) refl
-      where
-        go : (b : Bool) → leb 14 i ≡ b → i < 14
-        go true q =
-            let e = row-past code i (leb-true _ _ q) ∙ is in
-            let z : _≡_ {A = ℕ} 0 1 = cc in
-            absurd (omega arith)
-        go false q = leb-false _ _ q
+more-from : (code i : ℕ) (r : Field) → fieldAt code i ≡ some r → rowsFrom code i ≡ r ∷ rowsFrom code (i + 1)
+unfolding rowsFrom fieldAt
+more-from code i r e = one-of (fieldsOf code) i r e ∙ rw add-one
 
 -- ---- one step
-
-at-end : (s : List ℕ) → eqb (length s) 0 ≡ accepts (fieldsBy [] 0 s)
-unfolding fieldsBy split andThen fit require accepts
-at-end [] = refl
-at-end (b ∷ s) = ne-eqb (suc (length s)) 0 (λ e. omega arith)
 
 judged : {A : Type 0} (b : Bool) (a : A) → accepts (require 6 b (λ _. accept a)) ≡ b
 unfolding require accepts
@@ -103,16 +79,6 @@ at-over k s = go (valueEnd 16 s)
     go (refuse j) = refl
     go (accept n) = over n s (split 16 k (drop n s))
 
-at-missing : (r : Field) (rest : List Field) (s : List ℕ) → r .mandatory ≡ true → false ≡ accepts (fieldsBy (r ∷ rest) 0 s)
-unfolding fieldsBy split andThen fit fits require accepts startsWith
-at-missing r rest [] m = rw m
-at-missing r rest (b ∷ s) m = refl
-
-at-absent : (r : Field) (rest : List Field) (s : List ℕ) → r .mandatory ≡ false → accepts (fieldsBy (r ∷ rest) 0 s) ≡ accepts (fieldsBy rest 0 s)
-unfolding fieldsBy split andThen fit fits require accepts startsWith
-at-absent r rest [] m = rw m
-at-absent r rest (b ∷ s) m = refl
-
 at-malformed : (rows : List Field) (c : ℕ) (s : List ℕ) (k : ℕ) → valueEnd 16 s ≡ refuse k → false ≡ accepts (fieldsBy rows (suc c) s)
 unfolding fieldsBy split andThen accepts
 at-malformed rows c s k e = rw e
@@ -128,59 +94,117 @@ module _ (r : Field) (rest : List Field) (c : ℕ) (s : List ℕ) (n : ℕ) (e :
           judged (fits (r .type) (r .mandatory) (take n s) && fit rest fs) (take n s ∷ fs)
           ∙ ap (λ (b : Bool). fits (r .type) (r .mandatory) (take n s) && b) (sym (judged (fit rest fs) fs))
 
--- ---- the facts as they come
+-- no field is left to read
+at-last : (rows : List Field) (t : List ℕ) → accepts (fieldsBy rows 0 t) ≡ eqb (length t) 0 && fit rows []
+unfolding fieldsBy split andThen accepts
+at-last rows [] = judged (fit rows []) []
+at-last rows (b ∷ t) = rw (ne-eqb (suc (length t)) 0 (λ e. omega arith))
 
-module _ (s : List ℕ) (code i count : ℕ) (v : R.Row) (p : rowSays v ≡ fieldAt code i) where
-  pub past-end : v ≡ Past → count ≡ 0 → eqb (length s) 0 ≡ accepts (fieldsBy (rowsFrom code i) count s)
-  past-end t z = rw (rows-none code i v p t, z) (at-end s)
+-- more values than rows
+at-many : (rows : List Field) (c : ℕ) (s : List ℕ) → length rows < c → false ≡ accepts (fieldsBy rows c s)
+at-many rows zero s h = absurd (omega arith)
+at-many [] (suc c) s h = at-over c s
+at-many (r ∷ rows) (suc c) s h = go (valueEnd 16 s) refl (λ n. at-many rows c (drop n s) (omega arith))
+  where
+    go : (v : Verdict ℕ) → valueEnd 16 s ≡ v → ((n : ℕ) → false ≡ accepts (fieldsBy rows c (drop n s))) → false ≡ accepts (fieldsBy (r ∷ rows) (suc c) s)
+    go (refuse k) e more = at-malformed (r ∷ rows) c s k e
+    go (accept n) e more = sym (step r rows c s n e ∙ rw (← more n) (and-false (fits (r .type) (r .mandatory) (take n s))))
 
-  pub past-over : v ≡ Past → (count ≡ 0 → ⊥) → false ≡ accepts (fieldsBy (rowsFrom code i) count s)
-  past-over t z = let q : count ≡ suc (count - 1) = omega (arith, z) in rw (rows-none code i v p t, q) (at-over (count - 1) s)
+-- ---- the steps of `suits`
 
-  module _ (kind : C.FieldType) (mandatory : Bool) (default : D.Default) (t : v ≡ IsField kind mandatory default) where
-    abbrev row : Field
-    row = record { type = typeSays kind; mandatory = mandatory; default = defaultSays default }
+module _ (f : List ℕ) (letter : ℕ) (v : R.Row) (p : rowSays v ≡ rowNamed letter) where
+  pub suits-past : v ≡ Past → false ≡ suits (rowNamed letter) f
+  unfolding suits
+  suits-past t = rw (← p, t)
 
-    abbrev rest : List Field
-    rest = rowsFrom code (i + 1)
+  pub suits-row : (kind : C.FieldType) (mandatory : Bool) (default : D.Default) (b : Bool) → v ≡ IsField kind mandatory default → b ≡ fits (typeSays kind) mandatory f → b ≡ suits (rowNamed letter) f
+  unfolding suits
+  suits-row kind mandatory default b t q = rw (← p, t) q
 
-    rows : rowsFrom code i ≡ row ∷ rest
-    rows = rows-more code i v p kind mandatory default t
+-- any value may stand in a field of any type
+any-suits : (f : List ℕ) → suits (rowNamed 1) f ≡ true
+unfolding suits rowNamed rowIn fits hasType
+any-suits f = go (isNull f)
+  where
+    go : (b : Bool) → cond b (not false) true ≡ true
+    go true = refl
+    go false = refl
 
-    pub row-fits : Fits w64 (i + 1)
-    row-fits = omega (arith, row-few code i v p kind mandatory default t)
+-- ---- the turns of `fields`
 
-    pub row-falls : (n : ℕ) → 14 - i ≡ n → 14 - (i + 1) < n
-    row-falls n e = omega (arith, row-few code i v p kind mandatory default t)
+-- what the fields say, and what is left to say after i of them and `at` bytes
+abbrev pub Left : ℕ → ℕ → List ℕ → ℕ → ℕ → Type 0
+Left code count s i at = accepts (fieldsBy (rowsFrom code 0) count s) ≡ accepts (fieldsBy (rowsFrom code i) (count - i) (drop at s))
 
-    pub field-missing : count ≡ 0 → mandatory ≡ true → false ≡ accepts (fieldsBy (rowsFrom code i) count s)
-    field-missing z m = rw (rows, z) (at-missing row rest s m)
+pub left-first : (code count : ℕ) (s : List ℕ) → Left code count s 0 0
+left-first code count s = rw (sub-zero count)
 
-    pub field-absent : (b : Bool) → count ≡ 0 → mandatory ≡ false → b ≡ accepts (fieldsBy (rowsFrom code (i + 1)) 0 s) → b ≡ accepts (fieldsBy (rowsFrom code i) count s)
-    field-absent b z m h = rw (rows, z) (h ∙ sym (at-absent row rest s m))
+rows-few : (code : ℕ) → length (rowsFrom code 0) ≤ 14
+unfolding rowsFrom
+rows-few code =
+    let e : drop 14 (rowsIn (fieldsOf code)) ≡ [] = none-from code 14 (sym (row-past code 14 (omega arith))) in
+    omega (arith, length-drop 14 (rowsIn (fieldsOf code)), ap length e)
 
-    module _ (more : count ≡ 0 → ⊥) (e : Value) (q : ended e ≡ valueEnd 16 s) where
-      next : count ≡ suc (count - 1)
-      next = omega (arith, more)
+pub fields-many : (code count : ℕ) (s : List ℕ) → 14 < count → false ≡ accepts (fieldsBy (rowsFrom code 0) count s)
+fields-many code count s h = at-many (rowsFrom code 0) count s (omega (arith, rows-few code))
 
-      pub field-malformed : e ≡ Malformed → false ≡ accepts (fieldsBy (rowsFrom code i) count s)
-      field-malformed u = rw next (at-malformed _ (count - 1) s 6 (sym q ∙ ap ended u))
+-- a field that is there, by the place after it
+step-at : (code i k at end : ℕ) (s : List ℕ) → at ≤ end → valueEnd 16 (drop at s) ≡ accept (end - at) → accepts (fieldsBy (rowsFrom code i) (suc k) (drop at s)) ≡ suits (fieldAt code i) (take (end - at) (drop at s)) && accepts (fieldsBy (rowsFrom code (i + 1)) k (drop end s))
+unfolding suits
+step-at code i k at end s l v = go (fieldAt code i) refl
+  where
+    go : (o : Option Field) → fieldAt code i ≡ o → accepts (fieldsBy (rowsFrom code i) (suc k) (drop at s)) ≡ suits o (take (end - at) (drop at s)) && accepts (fieldsBy (rowsFrom code (i + 1)) k (drop end s))
+    go none e = rw (none-from code i e) (sym (at-over k (drop at s)))
+    go (some r) e =
+        let d : at + (end - at) ≡ end = omega arith in
+        rw (more-from code i r e) (step r (rowsFrom code (i + 1)) k (drop at s) (end - at) v ∙ rw (drop-drop, d))
 
-      module _ (n : ℕ) (u : e ≡ End n) where
-        stepped : accepts (fieldsBy (rowsFrom code i) count s) ≡ fits (typeSays kind) mandatory (take n s) && accepts (fieldsBy rest (count - 1) (drop n s))
-        stepped = ap (λ (c : ℕ). accepts (fieldsBy (rowsFrom code i) c s)) next ∙ rw rows (step row rest (count - 1) s n (sym q ∙ ap ended u))
+module _ (code count i at : ℕ) (s : List ℕ) (inv : Left code count s i at) where
+  module _ (end : ℕ) (h : i < count) (p : end ≡ placeAfter at (valueEnd 16 (drop at s))) where
+    next : count - i ≡ suc (count - (i + 1))
+    next = omega arith
 
-        module _ (a : Bool) (f : a ≡ fits (typeSays kind) mandatory (take n s)) where
-          pub field-unfit : a ≡ false → false ≡ accepts (fieldsBy (rowsFrom code i) count s)
-          field-unfit g = sym (stepped ∙ rw (← f, g))
+    pub fields-stop : end ≡ 0 → false ≡ accepts (fieldsBy (rowsFrom code 0) count s)
+    fields-stop z = sym (inv ∙ rw next (sym (at-malformed (rowsFrom code i) (count - (i + 1)) (drop at s) 6 (place-off 16 at s end p z))))
 
-          pub field-fit : (b : Bool) → a ≡ true → b ≡ accepts (fieldsBy (rowsFrom code (i + 1)) (count - 1) (take (length s - n) (drop n s))) → b ≡ accepts (fieldsBy (rowsFrom code i) count s)
-          field-fit b g h = sym (stepped ∙ rw (← f, g, ← tail s n) (sym h))
+    module _ (z : end ≡ 0 → ⊥) where
+      pub field-ordered : at ≤ end
+      field-ordered = omega (arith, place-in 16 at s end p z .0)
 
--- a value that was read
-module _ (s : List ℕ) (e : Value) (q : ended e ≡ valueEnd 16 s) (n : ℕ) (u : e ≡ End n) where
-  pub read-within : n ≤ length s
-  read-within = value-within 16 s n (sym q ∙ ap ended u)
+      pub field-inside : end ≤ length s
+      field-inside = place-in 16 at s end p z .1
 
-  pub read-length : n ≡ length (take n s)
-  read-length = sym (length-take-le n s read-within)
+      module _ (few : count ≤ 14) (word : ℕ) (w : RowsIn code word) where
+        abbrev letter : ℕ
+        letter = word / 2 ^ (4 * i) % 16
+
+        turned : accepts (fieldsBy (rowsFrom code 0) count s) ≡ suits (rowNamed letter) (take (end - at) (drop at s)) && accepts (fieldsBy (rowsFrom code (i + 1)) (count - (i + 1)) (drop end s))
+        turned =
+            inv ∙ rw (next, w .row i (omega arith)) (step-at code i (count - (i + 1)) at end s field-ordered (place-on 16 at s end p z))
+
+        pub fields-any : letter ≡ 1 → Left code count s (i + 1) end
+        fields-any e = turned ∙ rw (e, any-suits (take (end - at) (drop at s)))
+
+        module _ (b : Bool) (q : b ≡ suits (rowNamed letter) (take (end - at) (drop at s))) where
+          pub fields-unfit : b ≡ false → false ≡ accepts (fieldsBy (rowsFrom code 0) count s)
+          fields-unfit t = sym (turned ∙ rw (← q, t))
+
+          pub fields-fit : b ≡ true → Left code count s (i + 1) end
+          fields-fit t = turned ∙ rw (← q, t)
+
+  module _ (done : count ≤ i) (l : i ≤ count) (word : ℕ) (w : RowsIn code word) where
+    last : accepts (fieldsBy (rowsFrom code 0) count s) ≡ eqb (length (drop at s)) 0 && leb (word / 2 ^ 56) count
+    last =
+        let e : i ≡ count = omega arith in
+        let z : count - count ≡ 0 = omega arith in
+        inv ∙ rw (e, z) (at-last (rowsFrom code count) (drop at s) ∙ rw (w .least count))
+
+    pub fields-least : count < word / 2 ^ 56 → false ≡ accepts (fieldsBy (rowsFrom code 0) count s)
+    fields-least h = sym (last ∙ rw (lt-leb (word / 2 ^ 56) count h) (and-false (eqb (length (drop at s)) 0)))
+
+    pub fields-all : word / 2 ^ 56 ≤ count → at ≤ length s → eqb at (length s) ≡ accepts (fieldsBy (rowsFrom code 0) count s)
+    fields-all h a = sym (last ∙ rw (le-leb (word / 2 ^ 56) count h) (and-true (eqb (length (drop at s)) 0) ∙ ends (length (drop at s)) (length-drop at s)))
+      where
+        ends : (n : ℕ) → n ≡ length s - at → eqb n 0 ≡ eqb at (length s)
+        ends zero e = let q : at ≡ length s = omega arith in sym (eq-eqb at (length s) q)
+        ends (suc n) e = ne-eqb (suc n) 0 (λ q. omega arith) ∙ sym (ne-eqb at (length s) (λ q. omega arith))

@@ -1,21 +1,22 @@
 -- What the private functions promise each other. No public promise speaks of these.
 -- Assumes nothing: these are definitions.
-use Prim.Native.Nat.{ℕ, zero, suc, _+_, _*_, _^_, _<_, _≤_}
+use Prim.Native.Nat.{ℕ, zero, suc, _+_, _-_, _*_, _/_, _%_, _^_, _<_, _≤_}
 use mathlib.Core.Path.{_≡_}
-use mathlib.Core.Bool.{cond}
+use mathlib.Core.Bool.{Bool, false, cond, _&&_}
 use mathlib.Core.List.{List, [], _∷_}
 use mathlib.Core.Option.{Option, none, some}
-use lib.ListN.{length, take, drop}
+use lib.ListN.{length, take, drop, getD}
+use lib.Dec.{leb, eqb}
 use Rattle.octets.specs.Verdict.{Verdict, refuse, accept}
 use Rattle.octets.specs.Octets.{startsWith}
 use Rattle.values.specs.Value.{valueEnd}
 use Rattle.values.specs.Null.{null}
-use Rattle.performatives.specs.declared.Items as I
-use Rattle.performatives.specs.declared.Items.the-variants.{List as IsList, Malformed as NoList}
-use Rattle.performatives.specs.declared.Descriptor.{Descriptor}
-use Rattle.performatives.specs.declared.Descriptor.the-variants.{Ulong, Malformed as NoUlong}
-use Rattle.performatives.specs.Fields.{Field, fieldsOf}
-use Rattle.performatives.specs.Performative.{Items, numberOr}
+use Rattle.performatives.specs.declared.composite.Items as I
+use Rattle.performatives.specs.declared.composite.Items.the-variants.{List as IsList, Malformed as NoList}
+use Rattle.performatives.specs.declared.composite.Descriptor.{Descriptor}
+use Rattle.performatives.specs.declared.composite.Descriptor.the-variants.{Ulong, Malformed as NoUlong}
+use Rattle.performatives.specs.Fields.{Field, Any, UShort, UInt, String, Error, may, must, defaults, fieldsOf, fieldAt}
+use Rattle.performatives.specs.Performative.{Items, fits, fit, numberOr}
 
 -- ---- a described list
 
@@ -27,6 +28,10 @@ abbrev pub descriptorSays : Descriptor → Verdict (ℕ × ℕ)
 descriptorSays (Ulong code end) = accept (code, end)
 descriptorSays NoUlong = refuse 6
 
+-- 00, a ulong of one byte, the code of a list with a size of one byte, and two bytes after it
+unfoldable pub isShort : List ℕ → Bool
+isShort s = leb 6 (length s) && (eqb (getD s 0 0) 0 && (eqb (getD s 1 0) 0x53 && eqb (getD s 3 0) 0xc0))
+
 -- ---- fields
 
 abbrev pub rowsIn : Option (List Field) → List Field
@@ -37,24 +42,46 @@ rowsIn (some rows) = rows
 unfoldable pub rowsFrom : ℕ → ℕ → List Field
 rowsFrom code i = drop i (rowsIn (fieldsOf code))
 
+unfoldable pub rowIn : List (ℕ × Field) → ℕ → Option Field
+rowIn [] n = none
+rowIn (r ∷ rs) n = cond (eqb n (r .0)) (some (r .1)) (rowIn rs n)
+
+-- the row that a letter stands for
+unfoldable pub rowNamed : ℕ → Option Field
+rowNamed n =
+    rowIn
+    ((1, may Any) ∷ (2, may String) ∷ (3, must String) ∷ (4, may UInt) ∷ (5, must UInt) ∷ (6, defaults UInt 4294967295)
+    ∷ (7, may UShort) ∷ (8, defaults UShort 65535) ∷ (9, may Error) ∷ [])
+    n
+
+-- the letters in a word, four bits each, are those of a performative's fields; above them stands how many fields there must be
+pub record RowsIn (code word : ℕ) : Type 0 where
+  pub row : (i : ℕ) → i < 14 → rowNamed (word / 2 ^ (4 * i) % 16) ≡ fieldAt code i
+  pub least : (i : ℕ) → fit (rowsFrom code i) [] ≡ leb (word / 2 ^ 56) i
+
+-- whether a value may stand in a field, if there is such a field
+unfoldable pub suits : Option Field → List ℕ → Bool
+suits none f = false
+suits (some r) f = fits (r .type) (r .mandatory) f
+
 -- ---- the values of a list, found one after the other
 
-abbrev pub past : Verdict ℕ → (ℕ → ℕ) → ℕ
-past (refuse k) rest = 0
-past (accept n) rest = n + rest n
+abbrev pub afterOr : ℕ → Verdict ℕ → ℕ
+afterOr at (refuse k) = at
+afterOr at (accept n) = at + n
+
+-- the place after the value at a place; the place itself where there is none
+unfoldable pub next : List ℕ → ℕ → ℕ
+next s at = afterOr at (valueEnd 16 (drop at s))
 
 -- where value i of those in s begins; where they end, if there are not so many
 unfoldable pub skip : ℕ → List ℕ → ℕ
 skip zero s = 0
-skip (suc i) s = past (valueEnd 16 s) (λ n. skip i (drop n s))
-
-abbrev pub front : Verdict ℕ → List ℕ → List ℕ
-front (refuse k) s = []
-front (accept n) s = take n s
+skip (suc i) s = next s (skip i s)
 
 -- its bytes; none, if there are not so many
 unfoldable pub item : ℕ → List ℕ → List ℕ
-item i s = front (valueEnd 16 (drop (skip i s) s)) (drop (skip i s) s)
+item i s = take (next s (skip i s) - skip i s) (drop (skip i s) s)
 
 abbrev pub orNull : List ℕ → List ℕ
 orNull [] = null

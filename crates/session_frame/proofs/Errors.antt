@@ -29,12 +29,12 @@ use Rattle.performatives.specs.Performative.{Described, described, itemsOf, spl
 use Rattle.performatives.specs.declared.Described as C
 use Rattle.performatives.specs.declared.Described.the-variants.{List as Lists, Malformed as NoList}
 use Rattle.performatives.specs.Answers.{describedSays}
-use Rattle.session_frame.specs.declared.Size.{Size}
-use Rattle.session_frame.specs.declared.Kept.{Kept}
-use Rattle.session_frame.specs.declared.Others.{Others}
-use Rattle.session_frame.specs.declared.Others.the-variants.{Fields, Malformed as NoFields}
-use Rattle.session_frame.specs.declared.ErrorParts.{ErrorParts}
-use Rattle.session_frame.specs.declared.ErrorParts.the-variants.{Parts, Malformed as NoParts}
+use Rattle.session_frame.specs.declared.field.Size.{Size}
+use Rattle.session_frame.specs.declared.field.Kept.{Kept}
+use Rattle.session_frame.specs.declared.error.Others.{Others}
+use Rattle.session_frame.specs.declared.error.Others.the-variants.{Fields, Malformed as NoFields}
+use Rattle.session_frame.specs.declared.error.ErrorParts.{ErrorParts}
+use Rattle.session_frame.specs.declared.error.ErrorParts.the-variants.{Parts, Malformed as NoParts}
 use Rattle.session_frame.specs.Session.{textOf, errorFields, withCondition, errorOf, shortest}
 use Rattle.session_frame.specs.Parts.{Sized, sizeOf, keptOf, Room, othersSays, othersOf, partsJoined, partsSay, Within, PartsOf}
 use Rattle.session_frame.proofs.Trim.{trimmed-first}

@@ -8,4 +8,5 @@ pub mod Types
 pub mod Walk
 pub mod Frames
 pub mod Reading
+pub mod Copied
 pub mod Writing

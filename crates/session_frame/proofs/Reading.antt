@@ -34,11 +34,11 @@ or-null-some [] h = absurd (omega arith)
 or-null-some (b ∷ f) h = refl
 
 module _ (k n : ℕ) (s : List ℕ) (e : valueEnd 16 s ≡ accept n) where
-  first-len-is : firstLen (suc k) s ≡ n
+  pub first-len-is : firstLen (suc k) s ≡ n
   unfolding firstLen
   first-len-is = rw e
 
-  first-is : first (suc k) s ≡ take n s
+  pub first-is : first (suc k) s ≡ take n s
   unfolding first
   first-is =
       let l : length (take n s) ≡ n = length-take-le n s (value-within 16 s n e) in
@@ -97,13 +97,13 @@ sized-missing String = tt
 sized-missing Error = λ d e. absurd (null-undescribed null d refl e)
 
 -- what stands at the front starts with what the whole starts with
-starts-front : (codes s : List ℕ) (n : ℕ) → startsWith codes (take n s) ≡ true → startsWith codes s ≡ true
+pub starts-front : (codes s : List ℕ) (n : ℕ) → startsWith codes (take n s) ≡ true → startsWith codes s ≡ true
 unfolding startsWith
 starts-front codes s zero h = let z : _≡_ {A = ℕ} 0 1 = cc in absurd (omega arith)
 starts-front codes [] (suc n) h = h
 starts-front codes (b ∷ s) (suc n) h = h
 
-null-ends : (s : List ℕ) (n : ℕ) → startsWith null s ≡ true → valueEnd 16 s ≡ accept n → n ≤ 1
+pub null-ends : (s : List ℕ) (n : ℕ) → startsWith null s ≡ true → valueEnd 16 s ≡ accept n → n ≤ 1
 unfolding narrow widthBelow kindOf kindIn codes
 null-ends s n = narrow-ends 16 0 null s n refl
 
@@ -137,7 +137,11 @@ module _ (s : List ℕ) (n : ℕ) (e : valueEnd 16 s ≡ accept n) where
 
 pub checked-from : (rows : List Field) (count : ℕ) (s : List ℕ) (fs : List (List ℕ)) → split 16 count s ≡ accept fs → fit rows fs ≡ true → Checked rows count s
 unfolding Checked fit first firstLen split
-checked-from [] count s fs e h = tt
+checked-from [] zero s fs e h = refl
+checked-from [] (suc k) s fs e h =
+    let g = rw (split-was 16 k s fs e .both) at h in
+    let z : _≡_ {A = ℕ} 0 1 = cc in
+    absurd (omega arith)
 checked-from (r ∷ rows) zero s fs e h =
     let a = split-none 16 s fs e in
     let g = rw (a .0) at h in

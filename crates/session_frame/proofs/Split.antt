@@ -21,10 +21,10 @@ use Rattle.values.proofs.Laws.{value-within, value-some}
 use Rattle.values.proofs.Apart.{then-was}
 use Rattle.serializer.specs.Written.{joined, trimmed}
 use Rattle.performatives.specs.Performative.{split}
-use Rattle.session_frame.specs.declared.Size.{Size}
-use Rattle.session_frame.specs.declared.Kept.{Kept}
-use Rattle.session_frame.specs.declared.Others.{Others}
-use Rattle.session_frame.specs.declared.Others.the-variants.{Fields, Malformed as NoFields}
+use Rattle.session_frame.specs.declared.field.Size.{Size}
+use Rattle.session_frame.specs.declared.field.Kept.{Kept}
+use Rattle.session_frame.specs.declared.error.Others.{Others}
+use Rattle.session_frame.specs.declared.error.Others.the-variants.{Fields, Malformed as NoFields}
 use Rattle.session_frame.specs.Parts.{orNull, sizeOf, keptOf, keptBefore, othersSays, othersOf}
 use Rattle.session_frame.proofs.Trim.{kept-before, kept-none, trimmed-few, trimmed-short}
 use Rattle.session_frame.proofs.Steps.{rest, rest-is}

@@ -26,8 +26,8 @@ use Rattle.performatives.specs.declared.FieldType.the-variants.{Any, UShort, UI
 use Rattle.performatives.specs.declared.Default.{Default}
 use Rattle.performatives.specs.declared.Default.the-variants.{Null, Number}
 use Rattle.performatives.specs.Answers.{typeSays, defaultSays}
-use Rattle.session_frame.specs.declared.Size.{Size}
-use Rattle.session_frame.specs.declared.Kept.{Kept}
+use Rattle.session_frame.specs.declared.field.Size.{Size}
+use Rattle.session_frame.specs.declared.field.Kept.{Kept}
 use Rattle.session_frame.specs.Session.{textOf, defaultOf}
 use Rattle.session_frame.specs.Parts.{orNull, endOr, firstLen, numberBytes, textStart, sizeOf, keptBefore}
 
@@ -38,7 +38,7 @@ rest s a = take (length s - a) (drop a s)
 pub rest-is : (s : List ℕ) (a : ℕ) → rest s a ≡ drop a s
 rest-is s a = take-all (length s - a) (drop a s) (omega (arith, length-drop a s))
 
-or-false : (b : Bool) → (b || false) ≡ b
+pub or-false : (b : Bool) → (b || false) ≡ b
 or-false true = refl
 or-false false = refl
 

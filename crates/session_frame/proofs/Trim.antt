@@ -11,11 +11,11 @@ use borrow.Author.Tests.{ne-eqb}
 use Rattle.octets.specs.Octets.{startsWith}
 use Rattle.values.specs.Null.{null, isNull}
 use Rattle.serializer.specs.Written.{joined, before, trimmed}
-use Rattle.session_frame.specs.declared.Size.{Size}
-use Rattle.session_frame.specs.declared.Kept.{Kept}
+use Rattle.session_frame.specs.declared.field.Size.{Size}
+use Rattle.session_frame.specs.declared.field.Kept.{Kept}
 use Rattle.session_frame.specs.Parts.{sizeOf, keptOf, keptBefore}
 
-kept-pair : (a b c d : ℕ) → a ≡ b → c ≡ d → _≡_ {A = Kept} (record { count = a; len = c }) (record { count = b; len = d })
+pub kept-pair : (a b c d : ℕ) → a ≡ b → c ≡ d → _≡_ {A = Kept} (record { count = a; len = c }) (record { count = b; len = d })
 kept-pair a b c d p q = rw (p, q)
 
 kept-one : (f : List ℕ) → _≡_ {A = Kept} (record { count = 0 + 1; len = 0 + length f }) (keptOf (f ∷ []))

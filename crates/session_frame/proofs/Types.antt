@@ -20,7 +20,7 @@ use Rattle.performatives.specs.declared.FieldType as C
 use Rattle.performatives.specs.declared.FieldType.the-variants.{Any, UShort, UInt, String, Error}
 use Rattle.performatives.specs.declared.Default.{Default}
 use Rattle.performatives.specs.Answers.{typeSays, defaultSays}
-use Rattle.session_frame.specs.declared.Size.{Size}
+use Rattle.session_frame.specs.declared.field.Size.{Size}
 use Rattle.session_frame.specs.Session.{textOf, defaultOf, shortest, writtenAs}
 use Rattle.session_frame.specs.Parts.{orNull, Sized, numberBytes, sizeOf, Room}
 use Rattle.session_frame.proofs.Steps.{size-is, size-uint, size-ushort, text-some}

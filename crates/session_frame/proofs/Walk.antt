@@ -30,8 +30,8 @@ use Rattle.performatives.specs.declared.Default.{Default}
 use Rattle.performatives.specs.declared.Row.{Row}
 use Rattle.performatives.specs.declared.Row.the-variants.{Field as Is, Past}
 use Rattle.performatives.specs.Answers.{typeSays, defaultSays, rowSays}
-use Rattle.session_frame.specs.declared.Size.{Size}
-use Rattle.session_frame.specs.declared.Kept.{Kept}
+use Rattle.session_frame.specs.declared.field.Size.{Size}
+use Rattle.session_frame.specs.declared.field.Kept.{Kept}
 use Rattle.session_frame.specs.Session.{textOf, errorFields, withCondition, errorOf, shortest, defaultOf, writtenAs, writtenField}
 use Rattle.session_frame.specs.Parts.{orNull, endOr, firstLen, first, fieldsFrom, writtenFrom, Sized, Checked, sizeOf, keptOf, keptBefore, Room}
 use Rattle.session_frame.proofs.Trim.{kept-before, kept-none, trimmed-few, trimmed-short}

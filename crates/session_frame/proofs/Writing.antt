@@ -30,7 +30,7 @@ use Rattle.frame_decoder.specs.declared.Frame.the-variants.{Refused as NoFrame,
 use Rattle.frame_decoder.specs.Frame.{Frame, FrameSaid, bodyIn, bodyOf, anySize, anyChannel, sessionFrame, sessionSaid}
 use Rattle.frame_decoder.specs.Answers.{frameSays, sessionAnswer}
 use Rattle.frame_decoder.proofs.Laws.{session-was, sendable-was, body-is as frame-body}
-use Rattle.session_frame.specs.declared.Kept.{Kept}
+use Rattle.session_frame.specs.declared.field.Kept.{Kept}
 use Rattle.session_frame.specs.declared.Plan.{Plan}
 use Rattle.session_frame.specs.Session.{performativeWritten, sessionBytes, writeSession}
 use Rattle.session_frame.specs.Parts.{fieldsFrom, writtenFrom, Checked, keptOf, planned, planBytes, Planned, writeBody}

@@ -2,7 +2,7 @@
 -- Assumes nothing: these are definitions.
 use Prim.Native.Nat.{ℕ, zero, suc, _+_, _-_, _^_, _<_, _≤_}
 use mathlib.Core.Path.{_≡_}
-use mathlib.Core.Bool.{Bool, cond, _&&_}
+use mathlib.Core.Bool.{Bool, true, false, cond, _&&_}
 use mathlib.Core.List.{List, [], _∷_, _++_}
 use mathlib.Core.Option.{Option, none, some}
 use lib.ListN.{length, take, drop}
@@ -15,12 +15,12 @@ use Rattle.serializer.specs.Written.{text, joined, trimmed, compositeHeader, co
 use Rattle.performatives.specs.Fields.{FieldType, Any, UShort, UInt, String, Error, Field, fieldsOf}
 use Rattle.performatives.specs.Performative.{Described, described, itemsOf, split, performative}
 use Rattle.frame_encoder.specs.Frames.{frameHeader, frameBytes, limited}
-use Rattle.session_frame.specs.declared.Size.{Size}
-use Rattle.session_frame.specs.declared.Kept.{Kept}
-use Rattle.session_frame.specs.declared.Others.{Others}
-use Rattle.session_frame.specs.declared.Others.the-variants.{Fields, Malformed}
-use Rattle.session_frame.specs.declared.ErrorParts.{ErrorParts}
-use Rattle.session_frame.specs.declared.ErrorParts.the-variants.{Parts, Malformed as NoParts}
+use Rattle.session_frame.specs.declared.field.Size.{Size}
+use Rattle.session_frame.specs.declared.field.Kept.{Kept}
+use Rattle.session_frame.specs.declared.error.Others.{Others}
+use Rattle.session_frame.specs.declared.error.Others.the-variants.{Fields, Malformed}
+use Rattle.session_frame.specs.declared.error.ErrorParts.{ErrorParts}
+use Rattle.session_frame.specs.declared.error.ErrorParts.the-variants.{Parts, Malformed as NoParts}
 use Rattle.session_frame.specs.declared.Plan.{Plan}
 use Rattle.session_frame.specs.Session.{textOf, errorFields, errorOf, writtenField, performativeWritten}
 
@@ -67,8 +67,9 @@ Sized UInt f = length f ≤ 5
 Sized String f = Unit {0}
 Sized Error f = (d : Described) → described f ≡ accept d → (1 ≤ d .count) × (d .count ≤ 3)
 
+-- each of so many fields has the size of its type, and there are no more of them than rows
 unfoldable pub Checked : List Field → ℕ → List ℕ → Type 0
-Checked [] count s = Unit {0}
+Checked [] count s = count ≡ 0
 Checked (r ∷ rows) count s = Sized (r .type) (first count s) × Checked rows (count - 1) (after count s)
 
 -- the bytes of a number, at most eight
@@ -78,6 +79,29 @@ numberBytes f = take 8 (drop 1 f)
 -- where the bytes of a string or a symbol begin
 unfoldable pub textStart : List ℕ → ℕ
 textStart f = cond (startsWith (0xa1 ∷ 0xa3 ∷ []) f) 2 5
+
+-- ---- fields that are written as they are
+
+abbrev pub isAny : FieldType → Bool
+isAny Any = true
+isAny UShort = false
+isAny UInt = false
+isAny String = false
+isAny Error = false
+
+unfoldable pub allAny : List Field → Bool
+allAny [] = true
+allAny (r ∷ rows) = isAny (r .type) && allAny rows
+
+-- whether it is a performative of which all fields are written as they are
+abbrev pub copied : Option (List Field) → Bool
+copied none = false
+copied (some rows) = allAny rows
+
+-- so many fields as they are; from a malformed one on they are null
+unfoldable pub asTheyAre : ℕ → List ℕ → List (List ℕ)
+asTheyAre zero s = []
+asTheyAre (suc k) s = first (suc k) s ∷ asTheyAre k (after (suc k) s)
 
 -- ---- how much is written
 
@@ -127,8 +151,12 @@ pub record PartsOf (f : List ℕ) (r : ErrorParts) : Type 0 where
 abbrev pub itemsIn : Plan → List ℕ → List ℕ
 itemsIn p body = take (p .end - p .from) (drop (p .from) body)
 
+-- the fields in their bytes, as they are written
+abbrev pub planFields : Plan → List ℕ → List (List ℕ)
+planFields p s = writtenFrom (fieldsFrom (p .code) 0) (p .count) s
+
 abbrev pub planned : Plan → List ℕ → List (List ℕ)
-planned p body = trimmed (writtenFrom (fieldsFrom (p .code) 0) (p .count) (itemsIn p body))
+planned p body = trimmed (planFields p (itemsIn p body))
 
 -- what stands before the fields
 unfoldable pub headBytes : ℕ → ℕ → Plan → List ℕ

@@ -48,7 +48,7 @@ within-followedBy f g s hf hg =
     holds-then (λ (x : ℕ). x ≤ length s) (λ (x : ℕ). x ≤ length s) (f s) _ hf
     (λ n h. within-plus n (g (drop n s)) (length (drop n s)) (length s) (hg (drop n s)) (omega (arith, length-drop n s)))
 
-pub within-times : (f : Reader) → ((s : List ℕ) → Within (length s) (f s)) → (k : ℕ) (s : List ℕ) → Within (length s) (times k f s)
+within-times : (f : Reader) → ((s : List ℕ) → Within (length s) (f s)) → (k : ℕ) (s : List ℕ) → Within (length s) (times k f s)
 unfolding times
 within-times f h zero s = omega arith
 within-times f h (suc k) s = within-followedBy f (times k f) s (h s) (within-times f h k)
@@ -70,7 +70,7 @@ kind-in-holds (p ∷ ps) c = go (eqb c (p .0)) (kind-in-holds ps c)
     go true h = tt
     go false h = h
 
-kind-holds : (c : ℕ) → Holds (λ (k : Kind). Unit {0}) (kindOf c)
+pub kind-holds : (c : ℕ) → Holds (λ (k : Kind). Unit {0}) (kindOf c)
 unfolding kindOf
 kind-holds c = kind-in-holds codes c
 
@@ -97,7 +97,7 @@ within-compound r shape w s h =
     holds-require (λ (m : ℕ). m ≤ length s) (eqb (w + n) (o .0)) _ (λ _. p .1)))
 
 module _ (r : ℕ → Reader) (h : (n : ℕ) (s : List ℕ) → Within (length s) (r n s)) where
-  pub within-items : (shape : Shape) (count : ℕ) (s : List ℕ) → Within (length s) (items r shape count s)
+  within-items : (shape : Shape) (count : ℕ) (s : List ℕ) → Within (length s) (items r shape count s)
   unfolding items
   within-items list count s = within-times (r 1) (h 1) count s
   within-items map count s = within-times (r 1) (h 1) count s
@@ -130,6 +130,3 @@ unfolding run
 within-run zero zero s = within-level noValues (λ count t. refl) 0 s
 within-run zero (suc k) s = refl
 within-run (suc d) count s = within-level (run d) (within-run d) count s
-
-pub within-bodies : (d : ℕ) (k : Kind) (s : List ℕ) → Within (length s) (body (run d) k s)
-within-bodies d k s = within-body (run d) (within-run d) k s

@@ -4,32 +4,22 @@ use mathlib.Core.Path.{_≡_, refl, sym, ap, _∙_}
 use mathlib.Core.Bool.{Bool, true, false}
 use mathlib.Core.List.{List, [], _∷_}
 use Prim.Native.Nat.{ℕ, zero, suc, _+_, _*_, _-_, _<_, _≤_}
-use native.Mathlib.Nat.{add-zero, zero-add, suc-mul, zero-mul, sub-zero}
+use native.Mathlib.Nat.{suc-mul, zero-mul}
 use native.Mathlib.Numerals.{sub-one}
 use native.Mathlib.Omega.{arith}
 use lib.ListN.{length, take, drop, getD, length-drop}
-use lib.Seq.{take-all, drop-drop}
+use lib.Seq.{take-all}
 use lib.Dec.{leb, eqb}
-use borrow.Author.Tests.{le-leb, lt-leb, eq-eqb, ne-eqb, eqb-true, leb-true, leb-false}
+use borrow.Author.Tests.{le-leb, lt-leb, ne-eqb, eqb-true, leb-true, leb-false}
 use Rattle.octets.specs.Verdict.{Verdict, refuse, accept, andThen}
 use Rattle.octets.proofs.Laws.{require-on, require-off}
-use Rattle.values.specs.Value.{Reader, Kind, plus, followedBy, times, bytes, booleanEnd, afterCode, level, noValues, run, codes, kindIn, kindOf, body}
+use Rattle.values.specs.Value.{Kind, plus, followedBy, times, bytes, booleanEnd, afterCode, level, noValues, run, codes, kindIn, kindOf, body}
 use Rattle.values.specs.Widths.{fixedWidth}
 use Rattle.values.proofs.Widths.{boolean-width}
 
 -- a part to the end
 pub tail : (s : List ℕ) (a : ℕ) → take (length s - a) (drop a s) ≡ drop a s
 tail s a = take-all (length s - a) (drop a s) (simp length-drop (omega arith))
-
-plus-zero : (v : Verdict ℕ) → plus 0 v ≡ v
-unfolding plus andThen
-plus-zero (accept n) = ap accept (zero-add n)
-plus-zero (refuse k) = refl
-
-pub plus-plus : (a b : ℕ) (v : Verdict ℕ) → plus a (plus b v) ≡ plus (a + b) v
-unfolding plus andThen
-plus-plus a b (accept n) = ap accept (omega arith)
-plus-plus a b (refuse k) = refl
 
 pub bytes-yes : (n : ℕ) (s : List ℕ) → n ≤ length s → accept n ≡ bytes n s
 unfolding bytes
@@ -45,9 +35,6 @@ unfolding booleanEnd
 boolean-none [] w e h = refl
 boolean-none (b ∷ s) w e h = absurd (omega (arith, boolean-width))
 
-pub boolean-there : (s : List ℕ) (w : ℕ) → w ≡ fixedWidth 0x56 → w ≤ length s → 0 < length s
-boolean-there s w e h = omega (arith, boolean-width)
-
 pub boolean-yes : (s : List ℕ) (w : ℕ) → w ≡ fixedWidth 0x56 → w ≤ length s → getD s 0 0 ≤ 1 → accept w ≡ booleanEnd s
 unfolding booleanEnd
 boolean-yes [] w e n h = absurd (omega (arith, boolean-width))
@@ -57,33 +44,6 @@ pub boolean-no : (s : List ℕ) (w : ℕ) → w ≡ fixedWidth 0x56 → w ≤ le
 unfolding booleanEnd
 boolean-no [] w e n h = absurd (omega (arith, boolean-width))
 boolean-no (b ∷ s) w e n h = sym (require-off _ _ _ (lt-leb _ _ h))
-
--- ---- a loop over items: what is left after `at` bytes and i of count turns
-
-abbrev pub left : Reader → List ℕ → ℕ → ℕ → ℕ → Verdict ℕ
-left f s count i at = plus at (times (count - i) f (drop at s))
-
-pub turn-first : (f : Reader) (s : List ℕ) (count : ℕ) → times count f s ≡ left f s count 0 0
-turn-first f s count = sym (plus-zero _ ∙ ap (λ (k : ℕ). times k f s) (sub-zero count))
-
-module _ (f : Reader) (s : List ℕ) (count i at : ℕ) where
-  pub turn-more : (n : ℕ) → i < count → f (drop at s) ≡ accept n → left f s count i at ≡ left f s count (i + 1) (at + n)
-  unfolding times followedBy andThen
-  turn-more n h e =
-      let q : count - i ≡ suc (count - (i + 1)) = omega arith in
-      rw (q, e) (plus-plus at n _ ∙ rw drop-drop)
-
-  pub turn-stop : (k : ℕ) → i < count → f (drop at s) ≡ refuse k → left f s count i at ≡ refuse k
-  unfolding times followedBy andThen plus
-  turn-stop k h e =
-      let q : count - i ≡ suc (count - (i + 1)) = omega arith in
-      rw (q, e)
-
-  pub turn-last : count ≤ i → left f s count i at ≡ accept at
-  unfolding times plus andThen
-  turn-last h =
-      let q : count - i ≡ 0 = omega arith in
-      rw q (ap accept (add-zero at))
 
 -- ---- so many times so many bytes, with no loop
 
@@ -127,11 +87,7 @@ run-step (suc d) count [] hd hs = absurd (hs refl)
 run-step (suc d) count (c ∷ s) hd hs = rw (sub-one (suc d))
 
 module _ (d count : ℕ) (s : List ℕ) (hd : d ≡ 0 → ⊥) (hs : length s ≡ 0 → ⊥) where
-  pub run-described : getD s 0 0 ≡ 0 → run d count s ≡ plus 1 (andThen (run (d - 1) 1 (drop 1 s)) (λ n. plus n (run (d - 1) count (drop n (drop 1 s)))))
-  unfolding afterCode followedBy
-  run-described e = run-step d count s hd hs ∙ rw (eq-eqb _ _ e)
-
-  pub run-plain : (getD s 0 0 ≡ 0 → ⊥) → run d count s ≡ plus 1 (andThen (kindOf (getD s 0 0)) (λ k. times count (body (run (d - 1)) k) (drop 1 s)))
+  run-plain : (getD s 0 0 ≡ 0 → ⊥) → run d count s ≡ plus 1 (andThen (kindOf (getD s 0 0)) (λ k. times count (body (run (d - 1)) k) (drop 1 s)))
   unfolding afterCode
   run-plain e = run-step d count s hd hs ∙ rw (ne-eqb _ _ e)
 
@@ -142,7 +98,7 @@ unfolding run
 run-bodies zero s h = absurd (h refl)
 run-bodies (suc k) s h = refl
 
-pub run-alone : (s : List ℕ) → (length s ≡ 0 → ⊥) → run 0 0 s ≡ andThen (kindOf (getD s 0 0)) (λ k. accept 1)
+run-alone : (s : List ℕ) → (length s ≡ 0 → ⊥) → run 0 0 s ≡ andThen (kindOf (getD s 0 0)) (λ k. accept 1)
 unfolding run level afterCode followedBy times plus andThen kindOf kindIn codes
 run-alone [] hs = absurd (hs refl)
 run-alone (c ∷ s) hs = go (eqb c 0) refl
@@ -154,6 +110,15 @@ run-alone (c ∷ s) hs = go (eqb c 0) refl
     go : (b : Bool) → eqb c 0 ≡ b → plus 1 (afterCode noValues 0 b c s) ≡ andThen (kindOf c) (λ k. accept 1)
     go true q = rw (eqb-true c 0 q)
     go false q = one (kindOf c)
+
+-- no bodies, on any level
+pub run-none-of : (d : ℕ) (s : List ℕ) → (length s ≡ 0 → ⊥) → (k : Kind) → kindOf (getD s 0 0) ≡ accept k → run d 0 s ≡ accept 1
+unfolding andThen plus times kindOf kindIn codes
+run-none-of zero s hs k e = run-alone s hs ∙ rw e
+run-none-of (suc d) s hs k e = run-plain (suc d) 0 s (λ q. omega arith) hs (λ q. not-zero (rw q at e)) ∙ rw e
+  where
+    not-zero : kindOf 0 ≡ accept k → ⊥
+    not-zero h = let z : _≡_ {A = ℕ} 0 1 = cc in omega arith
 
 -- what describes would stand deeper yet
 pub run-undescribed : (count : ℕ) (s : List ℕ) → (length s ≡ 0 → ⊥) → getD s 0 0 ≡ 0 → refuse 6 ≡ run 0 count s

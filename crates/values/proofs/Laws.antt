@@ -218,7 +218,7 @@ value-deeper d s n e = run-deeper d 1 s n e
 
 -- ---- a value by its first byte
 
-code-not-zero : (c : ℕ) (k : Kind) → kindOf c ≡ accept k → c ≡ 0 → ⊥
+pub code-not-zero : (c : ℕ) (k : Kind) → kindOf c ≡ accept k → c ≡ 0 → ⊥
 unfolding kindOf kindIn codes
 code-not-zero c k e q = never 6 k (rw q at e)
 

@@ -3,8 +3,12 @@ pub mod Widths
 pub mod Cases
 pub mod Bounds
 pub mod Table
-pub mod Steps
+pub mod Turns
 pub mod Apart
 pub mod Laws
+pub mod Places
+pub mod Plain
+pub mod Steps
+pub mod Compounds
 pub mod Written
 pub mod Examples

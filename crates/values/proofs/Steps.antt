@@ -1,315 +1,359 @@
--- What each step of the functions shows, with the answers of the functions that it calls as they come: `v` is such an answer, with what its
--- function ensures and what it was opened as. `search` finds the facts.
+-- What each step of the functions shows, with the answers of the functions that it calls as they come: e is such an answer, with what its function
+-- ensures. `search` finds the facts.
 -- Assumes nothing.
 use mathlib.Core.Path.{_≡_, refl, sym, ap, _∙_}
-use mathlib.Core.Logic.{_⊎_, ⊎-elim}
-use mathlib.Core.Bool.{Bool, true, false}
-use mathlib.Core.List.{List}
-use Prim.Native.Nat.{ℕ, _+_, _*_, _-_, _^_, _<_, _≤_}
-use native.Mathlib.Nat.{mul-le-mul-left, le-of-lt}
+use mathlib.Core.Bool.{Bool, true, false, cond}
+use mathlib.Core.List.{List, _∷_}
+use Prim.Native.Nat.{ℕ, zero, suc, _+_, _*_, _-_, _%_, _^_, _<_, _≤_}
+use native.Mathlib.Nat.{mul-le-mul-left, le-of-lt, zero-add, add-zero, sub-zero}
+use native.Mathlib.Numerals.{sub-one}
 use native.Mathlib.Omega.{arith}
-use denote.Enum.Declared.{tagOf}
-use mir.Syntax.{w32, w64, w8}
+use mir.Syntax.{w32, w64}
 use mir.Val.{Fits}
-use lib.ListN.{length, take, drop, getD, length-drop, length-take}
-use lib.Seq.{length-take-le, take-all, drop-drop}
-use lib.Pow.{pow-mono}
-use borrow.Author.Tests.{le-leb, lt-leb, eq-eqb, ne-eqb}
-use Rattle.octets.specs.Verdict.{Verdict, refuse, accept, andThen, require}
-use Rattle.octets.specs.Octets.{bigEndian}
-use Rattle.octets.proofs.Laws.{require-on, require-off}
-use Rattle.values.specs.declared.Value.{Value}
-use Rattle.values.specs.declared.Value.the-variants.{End, Malformed}
-use Rattle.values.specs.declared.Shape as C
-use Rattle.values.specs.declared.Shape.the-variants.{List as Lists, Map, Array}
-use Rattle.values.specs.declared.Kind as K
-use Rattle.values.specs.declared.Kind.the-variants.{Fixed, Boolean, Variable, Compound}
-use Rattle.values.specs.declared.Code.{Code}
-use Rattle.values.specs.declared.Code.the-variants.{Known, Unknown}
-use Rattle.values.specs.declared.Number.{Number}
-use Rattle.values.specs.declared.Number.the-variants.{Is, Short}
-use Rattle.values.specs.declared.Opening.{Opening}
-use Rattle.values.specs.declared.Opening.the-variants.{Counted, Malformed as Unopened}
-use Rattle.values.specs.Value.{Reader, Kind, plus, times, kindOf, bytes, numberIn, booleanEnd, variableEnd, pairedIn, opening, items, compoundEnd, body, run}
+use lib.Dec.{leb, eqb}
+use lib.ListN.{length, take, drop, getD, length-take, length-drop}
+use lib.Seq.{length-take-le, take-all, drop-cons, drop-drop, getD-drop}
+use borrow.Author.Tests.{eqb-true, eqb-false, lt-leb, eq-eqb, ne-eqb}
+use Rattle.octets.specs.Verdict.{refuse, accept, andThen}
+use Rattle.octets.specs.Octets.{bigEndian, bigEndianFrom}
+use Rattle.octets.proofs.Laws.{require-off}
+use Rattle.values.specs.Value.{Reader, Kind, fixed, boolean, variable, compound, codes, kindIn, kindOf, followedBy, times, bytes, numberIn, booleanEnd, variableEnd, pairedIn, items, compoundEnd, body, afterCode, level, run, valueEnd}
 use Rattle.values.specs.Widths.{fixedWidth}
-use Rattle.values.specs.Answers.{ended, widthOf, shapeSaid, kindSaid, codeSaid, numberSaid, openingSaid}
-use Rattle.values.proofs.Shape.{the-type}
-use Rattle.values.proofs.Cases.{tail, left, turn-more, turn-stop, turn-last, times-bytes, run-bodies, run-alone, run-undescribed, run-unknown, run-described, run-plain}
-use Rattle.values.proofs.Bounds.{Within, holds-accept, Opens, opening-holds, within-times, within-items, within-run, within-bodies}
+use Rattle.values.specs.Plain.{isKnown, isPlain}
+use Rattle.values.specs.declared.Value.{Value}
+use Rattle.values.specs.declared.format_code.Kind as K
+use Rattle.values.specs.declared.format_code.Kind.the-variants.{Fixed, Boolean, Variable, List as Lists, Map, Array}
+use Rattle.values.specs.declared.format_code.Code.{Code}
+use Rattle.values.specs.declared.format_code.Code.the-variants.{Known, Unknown}
+use Rattle.values.specs.Answers.{ended, placeAfter, widthOf, shapeOf, kindSaid, codeSaid}
+use Rattle.values.proofs.Widths.{boolean-width}
+use Rattle.values.proofs.Cases.{bytes-yes, bytes-no, boolean-none, boolean-yes, boolean-no, times-bytes, run-none, run-bodies, run-undescribed, run-unknown, run-none-of}
+use Rattle.values.proofs.Turns.{place-plus, left, turn-first}
+use Rattle.values.proofs.Apart.{number-is}
+use Rattle.values.proofs.Laws.{code-not-zero, value-of-code}
+use Rattle.values.proofs.Places.{place-of, place-none, drop-past, run-off, run-on, run-in, place-off, place-on, place-in}
+use Rattle.values.proofs.Plain.{known-kind, unknown-kind, plain-fixed, plain-variable, plain-level}
 
--- ---- numbers
+-- ---- sizes and counts
 
-width-le : (wide : Bool) → widthOf wide ≤ 4
-width-le true = omega arith
-width-le false = omega arith
+module _ (s : List ℕ) (at : ℕ) (wide : Bool) (h : at + widthOf wide ≤ length s) where
+  module _ (t : wide ≡ true) where
+    pub wide-in : at + 4 ≤ length s
+    wide-in = rw t at h
 
-pub width-fits : (wide : Bool) (w n : ℕ) → w ≡ widthOf wide → Fits w32 n → Fits w64 (w + n)
-width-fits wide w n e h = omega (arith, width-le wide)
+    pub wide-fits : length s < 2 ^ 64 → Fits w64 (at + 4)
+    wide-fits l = omega (arith, wide-in)
 
-module _ (wide : Bool) (w : ℕ) (e : w ≡ widthOf wide) (s : List ℕ) where
-  pub number-short : length s < w → refuse 6 ≡ numberIn (widthOf wide) s
-  unfolding numberIn
-  number-short h = rw (← e) (sym (require-off _ _ _ (lt-leb _ _ h)))
+    four : take 8 (take ((at + 4) - at) (drop at s)) ≡ take 4 (drop at s)
+    four =
+        let k : (at + 4) - at ≡ 4 = omega arith in
+        rw k (take-all 8 (take 4 (drop at s)) (omega (arith, length-take 4 (drop at s))))
 
-  pub number-of : w ≤ length s → w ≡ length (take w s)
-  number-of h = sym (length-take-le w s h)
+    module _ (x : ℕ) where
+      pub wide-is : x ≡ bigEndian (take 8 (take ((at + 4) - at) (drop at s))) → x ≡ bigEndian (take (widthOf wide) (drop at s))
+      wide-is e = e ∙ rw (four, t)
 
-  module _ (x : ℕ) (h : w ≤ length s) where
-    pub number-is : x ≡ bigEndian (take 8 (take w s)) → accept x ≡ numberIn (widthOf wide) s
-    unfolding numberIn
-    number-is q =
-        let l : length (take w s) ≤ 8 = omega (arith, length-take-le w s h, width-le wide) in
-        rw (← e, q, take-all 8 (take w s) l) (sym (require-on _ _ _ (le-leb _ _ h)))
+      pub wide-low : x < 2 ^ (8 * length (take 8 (take ((at + 4) - at) (drop at s)))) → x < 2 ^ 32
+      wide-low e =
+          let l : length (take 4 (drop at s)) ≡ 4 = length-take-le 4 (drop at s) (omega (arith, wide-in, length-drop at s)) in
+          rw (four, l) at e
 
-    pub number-fits : x < 2 ^ (8 * length (take 8 (take w s))) → Fits w32 x
-    number-fits q =
-        let l : length (take w s) ≤ 8 = omega (arith, length-take-le w s h, width-le wide) in
-        let k : take 8 (take w s) ≡ take w s = take-all 8 (take w s) l in
-        let p : 2 ^ (8 * length (take 8 (take w s))) ≤ 2 ^ 32 = pow-mono {i = 8 * length (take 8 (take w s))} {j = 32} (rw k (omega (arith, length-take-le w s h, width-le wide))) in
-        omega arith
+  module _ (t : wide ≡ false) where
+    pub narrow-in : at < length s
+    narrow-in = let k : at + 1 ≤ length s = rw t at h in omega arith
 
--- ---- a body that a size counts
+    pub narrow-is : (x : ℕ) → x ≡ getD s at 0 → x ≡ bigEndian (take (widthOf wide) (drop at s))
+    unfolding bigEndian bigEndianFrom
+    narrow-is x e = e ∙ rw (t, drop-cons s at 0 narrow-in) (sym (zero-add (getD s at 0)))
 
-module _ (wide : Bool) (s : List ℕ) (x : Number) (d : numberSaid x ≡ numberIn (widthOf wide) s) where
-  pub variable-short : x ≡ Short → refuse 6 ≡ variableEnd (widthOf wide) s
-  unfolding variableEnd andThen
-  variable-short e = rw (← d, e)
+pub low-fits : (x : ℕ) → x < 256 → x < 2 ^ 32
+low-fits x h = omega arith
 
-  pub variable-is : (n w : ℕ) (v : Value) → x ≡ Is n → w ≡ widthOf wide → ended v ≡ bytes (w + n) s → ended v ≡ variableEnd (widthOf wide) s
-  unfolding variableEnd andThen
-  variable-is n w v e q h = rw (← d, e, ← q) h
+-- ---- bodies without values in them
 
--- ---- a size and a count
+front : (s : List ℕ) (at : ℕ) → getD (drop at s) 0 0 ≡ getD s at 0
+front s at = getD-drop at s 0 0 ∙ ap (λ (n : ℕ). getD s n 0) (add-zero at)
 
-module _ (shape : C.Shape) (wide : Bool) (s : List ℕ) (x : Number) (d : numberSaid x ≡ numberIn (widthOf wide) s) where
-  pub opening-short : x ≡ Short → refuse 6 ≡ opening (shapeSaid shape) (widthOf wide) s
-  unfolding opening andThen
-  opening-short e = rw (← d, e)
+module _ (s : List ℕ) (at n : ℕ) where
+  pub bytes-off : length s - at < n → 0 ≡ placeAfter at (bytes n (drop at s))
+  bytes-off h = rw (← bytes-no n (drop at s) (omega (arith, length-drop at s)))
 
-  module _ (size w : ℕ) (e : x ≡ Is size) (q : w ≡ widthOf wide) where
-    pub opening-long : length s < w + size → refuse 6 ≡ opening (shapeSaid shape) (widthOf wide) s
-    unfolding opening andThen require
-    opening-long h = rw (← d, e, ← q, lt-leb _ _ h)
+  pub bytes-on : n ≤ length s - at → at + n ≡ placeAfter at (bytes n (drop at s))
+  bytes-on h = rw (← bytes-yes n (drop at s) (omega (arith, length-drop at s)))
 
-    module _ (y : Number) (h : w + size ≤ length s) (g : numberSaid y ≡ numberIn (widthOf wide) (take ((w + size) - w) (drop w s))) where
-      inner : numberSaid y ≡ numberIn w (take size (drop w s))
-      inner = let k : (w + size) - w ≡ size = omega arith in rw (← q, k) at g
+pub sum-fits : (s : List ℕ) (at n : ℕ) → length s < 2 ^ 64 → at ≤ length s → n ≤ length s - at → Fits w64 (at + n)
+sum-fits s at n l h k = omega arith
 
-      pub opening-countless : y ≡ Short → refuse 6 ≡ opening (shapeSaid shape) (widthOf wide) s
-      unfolding opening andThen require
-      opening-countless k = rw (← d, e, ← q, le-leb _ _ h, ← inner, k)
+module _ (s : List ℕ) (at w : ℕ) (e : w ≡ fixedWidth 0x56) where
+  pub boolean-cut : length s - at < w → 0 ≡ placeAfter at (booleanEnd (drop at s))
+  boolean-cut h = rw (← boolean-none (drop at s) w e (omega (arith, length-drop at s)))
 
-      module _ (count : ℕ) (k : y ≡ Is count) (b : Bool) (v : b ≡ pairedIn (shapeSaid shape) count) where
-        pub opening-odd : b ≡ false → refuse 6 ≡ opening (shapeSaid shape) (widthOf wide) s
-        unfolding opening andThen require
-        opening-odd t = rw (← d, e, ← q, le-leb _ _ h, ← inner, k, ← v, t)
+  module _ (h : at ≤ length s) (k : w ≤ length s - at) where
+    there : w ≤ length (drop at s)
+    there = omega (arith, length-drop at s)
 
-        pub opening-yes : b ≡ true → accept (size, count) ≡ opening (shapeSaid shape) (widthOf wide) s
-        unfolding opening andThen require
-        opening-yes t = rw (← d, e, ← q, le-leb _ _ h, ← inner, k, ← v, t)
+    pub boolean-off : 1 < getD s at 0 → 0 ≡ placeAfter at (booleanEnd (drop at s))
+    boolean-off g = rw (← boolean-no (drop at s) w e there (rw (front s at) g))
 
--- ---- answers
+    pub boolean-on : getD s at 0 ≤ 1 → at + w ≡ placeAfter at (booleanEnd (drop at s))
+    boolean-on g = rw (← boolean-yes (drop at s) w e there (rw (front s at) g))
 
-said : (v : Value) (X : Verdict ℕ) (n : ℕ) → ended v ≡ X → v ≡ End n → X ≡ accept n
-said v X n e q = sym e ∙ ap ended q
+    pub boolean-in : at < length s
+    boolean-in = omega (arith, boolean-width)
 
-unsaid : (v : Value) (X : Verdict ℕ) → ended v ≡ X → v ≡ Malformed → X ≡ refuse 6
-unsaid v X e q = sym e ∙ ap ended q
+module _ (s : List ℕ) (at : ℕ) (wide : Bool) (w : ℕ) (e : w ≡ widthOf wide) where
+  pub variable-cut : length s - at < w → 0 ≡ placeAfter at (variableEnd (widthOf wide) (drop at s))
+  unfolding variableEnd numberIn andThen
+  variable-cut h = rw (require-off 6 (leb (widthOf wide) (length (drop at s))) (λ _. accept (bigEndian (take (widthOf wide) (drop at s)))) (lt-leb (widthOf wide) (length (drop at s)) (omega (arith, length-drop at s))))
 
--- the rest of s from a on, as the code hands it down
-abbrev pub rest : List ℕ → ℕ → List ℕ
-rest s a = take (length s - a) (drop a s)
+  module _ (k : w ≤ length s - at) (h : at ≤ length s) where
+    pub number-in : at + widthOf wide ≤ length s
+    number-in = omega arith
 
--- what an answer about the rest says about the whole
-in-rest : (f : Reader) → ((t : List ℕ) → Within (length t) (f t)) → (s : List ℕ) (a n : ℕ) (v : Value) → a ≤ length s → ended v ≡ f (rest s a) → v ≡ End n → a + n ≤ length s
-in-rest f h s a n v l e q =
-    let b : n ≤ length (rest s a) = holds-accept (λ (m : ℕ). m ≤ length (rest s a)) (f (rest s a)) n (h (rest s a)) (said v _ n e q) in
-    let k : length (rest s a) ≡ length s - a = ap length (tail s a) ∙ length-drop a s in
-    omega arith
+    pub variable-is : (n r : ℕ) → n ≡ bigEndian (take (widthOf wide) (drop at s)) → r ≡ placeAfter at (bytes (w + n) (drop at s)) → r ≡ placeAfter at (variableEnd (widthOf wide) (drop at s))
+    unfolding variableEnd andThen
+    variable-is n r q g = g ∙ rw (number-is (widthOf wide) (drop at s) (omega (arith, length-drop at s)), ← q, e)
 
--- ---- constructor
+pub size-fits : (w n : ℕ) → w ≤ 4 → n < 2 ^ 32 → Fits w64 (w + n)
+size-fits w n h k = omega arith
 
-module _ (d count : ℕ) (s : List ℕ) (z : d ≡ 0) where
-  pub deep-some : (count ≡ 0 → ⊥) → refuse 6 ≡ run d count s
-  deep-some n = rw z (run-bodies count s n)
+-- ---- values
 
-  module _ (hs : length s ≡ 0 → ⊥) where
-    pub deep-described : getD s 0 0 ≡ 0 → refuse 6 ≡ run d count s
-    deep-described e = rw z (run-undescribed count s hs e)
+pub plain-yes : (b : Bool) (c : ℕ) → b ≡ isPlain c → b ≡ true → isPlain c ≡ true
+plain-yes b c p t = sym p ∙ t
 
-    pub deep-none : count ≡ 0 → (k : Code) → codeSaid k ≡ kindOf (getD s 0 0) → (kind : K.Kind) → k ≡ Known kind → accept 1 ≡ run d count s
-    unfolding andThen
-    deep-none n k o kind u = sym (rw (z, n) (run-alone s hs ∙ rw (← o, u)))
+-- a code that stands at a place, and the bytes after it
+module _ (s : List ℕ) (at : ℕ) (h : at < length s) where
+  abbrev code : ℕ
+  code = getD s at 0
 
-module _ (s : List ℕ) (d count : ℕ) (v : Value) (n : ℕ) (hs : length s ≡ 0 → ⊥) (e : ended v ≡ run d count (rest s 1)) (q : v ≡ End n) where
-  pub next-in : 1 + n ≤ length s
-  next-in =
-      let p : 0 < length s = omega arith in
-      in-rest (run d count) (within-run d count) s 1 n v p e q
+  opens : drop at s ≡ code ∷ drop (at + 1) s
+  opens = let q : suc at ≡ at + 1 = omega arith in drop-cons s at 0 h ∙ rw q
 
-pub next-fits : (s : List ℕ) (d count : ℕ) (v : Value) (n : ℕ) → length s < 2 ^ 64 → (length s ≡ 0 → ⊥) → ended v ≡ run d count (rest s 1) → v ≡ End n → Fits w64 (1 + n)
-next-fits s d count v n l hs e q = omega (arith, next-in s d count v n hs e q)
+  -- the value of a code is one body of its kind
+  known : (d : ℕ) (k : Kind) → (d ≡ 0 → ⊥) → kindOf code ≡ accept k → placeAfter at (valueEnd d (drop at s)) ≡ placeAfter (at + 1) (body (run (d - 1)) k (drop (at + 1) s))
+  known zero k z e = absurd (z refl)
+  known (suc d) k z e = rw (opens, value-of-code d code k (drop (at + 1) s) e, place-plus, sub-one (suc d))
 
-pub two-fits : (s : List ℕ) (d count : ℕ) (u v : Value) (n m : ℕ) → length s < 2 ^ 64 → (length s ≡ 0 → ⊥) → ended u ≡ run d 1 (rest s 1) → u ≡ End n → ended v ≡ run d count (rest s (1 + n)) → v ≡ End m → Fits w64 ((1 + n) + m)
-two-fits s d count u v n m l hs e q f p =
-    omega (arith, in-rest (run d count) (within-run d count) s (1 + n) m v (next-in s d 1 u n hs e q) f p)
+  module _ (p : isPlain code ≡ true) (r : ℕ) where
+    pub plain-short : (w : ℕ) → code < 160 → w ≡ fixedWidth code → r ≡ placeAfter (at + 1) (bytes w (drop (at + 1) s)) → r ≡ placeAfter at (valueEnd 1 (drop at s))
+    unfolding body
+    plain-short w l e q = q ∙ rw e (sym (known 1 (fixed (fixedWidth code)) (λ z. omega arith) (plain-fixed code p l)))
 
-pub bodies-fit : (s : List ℕ) (d count : ℕ) (k : Kind) (v : Value) (n : ℕ) → length s < 2 ^ 64 → (length s ≡ 0 → ⊥) → ended v ≡ times count (body (run d) k) (rest s 1) → v ≡ End n → Fits w64 (1 + n)
-bodies-fit s d count k v n l hs e q =
-    let p : 0 < length s = omega arith in
-    omega (arith, in-rest (times count (body (run d) k)) (within-times (body (run d) k) (within-bodies d k) count) s 1 n v p e q)
+    pub plain-sized : (wide : Bool) → 160 ≤ code → wide ≡ false → r ≡ placeAfter (at + 1) (variableEnd (widthOf wide) (drop (at + 1) s)) → r ≡ placeAfter at (valueEnd 1 (drop at s))
+    unfolding body
+    plain-sized wide l e q = q ∙ rw e (sym (known 1 (variable 1) (λ z. omega arith) (plain-variable code p l)))
 
-module _ (d count : ℕ) (s : List ℕ) (hd : d ≡ 0 → ⊥) (hs : length s ≡ 0 → ⊥) where
-  module _ (z : getD s 0 0 ≡ 0) (u : Value) (e : ended u ≡ run (d - 1) 1 (rest s 1)) where
-    pub first-off : u ≡ Malformed → refuse 6 ≡ run d count s
-    unfolding andThen plus
-    first-off q = sym (run-described d count s hd hs z ∙ rw (rw tail at (unsaid u _ e q)))
+    pub plain-deep : (d : ℕ) → (d ≡ 0 → ⊥) → r ≡ placeAfter at (valueEnd 1 (drop at s)) → r ≡ placeAfter at (valueEnd d (drop at s))
+    plain-deep zero z q = absurd (z refl)
+    plain-deep (suc d) z q = q ∙ rw opens (ap (placeAfter at) (sym (plain-level code p d (drop (at + 1) s))))
 
-    module _ (n : ℕ) (q : u ≡ End n) (v : Value) (f : ended v ≡ run (d - 1) count (rest s (1 + n))) where
-      pub second-off : v ≡ Malformed → refuse 6 ≡ run d count s
-      unfolding andThen plus
-      second-off p = sym (run-described d count s hd hs z ∙ rw (rw tail at (said u _ n e q), drop-drop, rw tail at (unsaid v _ f p)))
+  -- and a run of it so many bodies
+  runs : (d count : ℕ) (k : Kind) → (d ≡ 0 → ⊥) → kindOf code ≡ accept k → placeAfter at (run d count (drop at s)) ≡ placeAfter (at + 1) (times count (body (run (d - 1)) k) (drop (at + 1) s))
+  unfolding run level afterCode andThen
+  runs zero count k z e = absurd (z refl)
+  runs (suc d) count k z e = rw (opens, ne-eqb code 0 (code-not-zero code k e), e, place-plus, sub-one (suc d))
 
-      pub both-on : (m : ℕ) → v ≡ End m → accept ((1 + n) + m) ≡ run d count s
-      unfolding andThen plus
-      both-on m p = sym (run-described d count s hd hs z ∙ rw (rw tail at (said u _ n e q), drop-drop, rw tail at (said v _ m f p)) (ap accept (omega arith)))
+  describes : (d count : ℕ) → (d ≡ 0 → ⊥) → code ≡ 0 → placeAfter at (run d count (drop at s)) ≡ placeAfter (at + 1) (followedBy (run (d - 1) 1) (run (d - 1) count) (drop (at + 1) s))
+  unfolding run level afterCode
+  describes zero count z e = absurd (z refl)
+  describes (suc d) count z e = rw (opens, eq-eqb code 0 e, place-plus, sub-one (suc d))
 
-  module _ (z : getD s 0 0 ≡ 0 → ⊥) (k : Code) (o : codeSaid k ≡ kindOf (getD s 0 0)) where
-    module _ (kind : K.Kind) (u : k ≡ Known kind) (v : Value) (e : ended v ≡ times count (body (run (d - 1)) (kindSaid kind)) (rest s 1)) where
-      pub bodies-off : v ≡ Malformed → refuse 6 ≡ run d count s
-      unfolding andThen plus
-      bodies-off q = sym (run-plain d count s hd hs z ∙ rw (← o, u, rw tail at (unsaid v _ e q)))
+  -- ---- other_end
 
-      pub bodies-on : (n : ℕ) → v ≡ End n → accept (1 + n) ≡ run d count s
-      unfolding andThen plus
-      bodies-on n q = sym (run-plain d count s hd hs z ∙ rw (← o, u, rw tail at (said v _ n e q)))
+  module _ (d r : ℕ) (z : 0 < d) where
+    deep : d ≡ 0 → ⊥
+    deep e = omega arith
 
-pub unknown-off : (d count : ℕ) (s : List ℕ) (k : Code) → (length s ≡ 0 → ⊥) → (getD s 0 0 ≡ 0 → ⊥) → codeSaid k ≡ kindOf (getD s 0 0) → k ≡ Unknown → refuse 6 ≡ run d count s
-unknown-off d count s k hs z o u = run-unknown d count s hs z (sym o ∙ ap codeSaid u)
+    pub value-described : code ≡ 0 → r ≡ placeAfter (at + 1) (followedBy (run (d - 1) 1) (run (d - 1) 1) (drop (at + 1) s)) → r ≡ placeAfter at (valueEnd d (drop at s))
+    unfolding valueEnd
+    value-described e q = q ∙ sym (describes d 1 deep e)
 
--- ---- a loop's turn; X is what the loop has to say
+    pub value-boolean : code ≡ 0x56 → r ≡ placeAfter (at + 1) (booleanEnd (drop (at + 1) s)) → r ≡ placeAfter at (valueEnd d (drop at s))
+    unfolding body kindOf kindIn codes
+    value-boolean e q = q ∙ sym (known d boolean deep (ap kindOf e))
 
-module _ (X : Verdict ℕ) (f : Reader) (s : List ℕ) (count i at : ℕ) (inv : X ≡ left f s count i at) where
-  pub ends : count ≤ i → accept at ≡ X
-  ends h = sym (inv ∙ turn-last f s count i at h)
+    module _ (shape : ℕ) (wide : Bool) (q : r ≡ placeAfter (at + 1) (compoundEnd (run (d - 1)) (shapeOf shape) (widthOf wide) (drop (at + 1) s))) where
+      compounded : kindOf code ≡ accept (compound (shapeOf shape) (widthOf wide)) → r ≡ placeAfter at (valueEnd d (drop at s))
+      unfolding body
+      compounded k = q ∙ sym (known d (compound (shapeOf shape) (widthOf wide)) deep k)
 
-  module _ (v : Value) (h : i < count) (e : ended v ≡ f (rest s at)) where
-    pub stops : v ≡ Malformed → refuse 6 ≡ X
-    stops q = sym (inv ∙ turn-stop f s count i at 6 h (rw tail at (unsaid v _ e q)))
+      module _ (f : wide ≡ false) where
+        pub value-list : code ≡ 0xc0 → shape ≡ 0 → r ≡ placeAfter at (valueEnd d (drop at s))
+        unfolding kindOf kindIn codes
+        value-list e n = compounded (rw (e, n, f))
 
-    pub goes-on : (n : ℕ) → v ≡ End n → X ≡ left f s count (i + 1) (at + n)
-    goes-on n q = inv ∙ turn-more f s count i at n h (rw tail at (said v _ n e q))
+        pub value-map : code ≡ 0xc1 → shape ≡ 1 → r ≡ placeAfter at (valueEnd d (drop at s))
+        unfolding kindOf kindIn codes
+        value-map e n = compounded (rw (e, n, f))
 
-module _ (d : ℕ) (s : List ℕ) (at n : ℕ) (v : Value) (h : at ≤ length s) where
-  pub item-in : ended v ≡ run d 1 (rest s at) → v ≡ End n → at + n ≤ length s
-  item-in e q = in-rest (run d 1) (within-run d 1) s at n v h e q
+        pub value-array : code ≡ 0xe0 → shape ≡ 2 → r ≡ placeAfter at (valueEnd d (drop at s))
+        unfolding kindOf kindIn codes
+        value-array e n = compounded (rw (e, n, f))
 
-  pub body-in : (k : Kind) → ended v ≡ body (run d) k (rest s at) → v ≡ End n → at + n ≤ length s
-  body-in k e q = in-rest (body (run d) k) (within-bodies d k) s at n v h e q
+  -- ---- code_end
 
-pub item-fits : (d : ℕ) (s : List ℕ) (at n : ℕ) (v : Value) → length s < 2 ^ 64 → at ≤ length s → ended v ≡ run d 1 (rest s at) → v ≡ End n → Fits w64 (at + n)
-item-fits d s at n v l h e q = omega (arith, item-in d s at n v h e q)
+  module _ (d count r : ℕ) (z : 0 < d) where
+    pub run-fixed : (w : ℕ) → isPlain code ≡ true → code < 160 → w ≡ fixedWidth code → r ≡ placeAfter (at + 1) (bytes (count * w) (drop (at + 1) s)) → r ≡ placeAfter at (run d count (drop at s))
+    unfolding body
+    run-fixed w p l e q = q ∙ rw e (ap (placeAfter (at + 1)) (sym (times-bytes (fixedWidth code) count (drop (at + 1) s))) ∙ sym (runs d count (fixed (fixedWidth code)) (deep d r z) (plain-fixed code p l)))
 
-pub body-fits : (d : ℕ) (k : Kind) (s : List ℕ) (at n : ℕ) (v : Value) → length s < 2 ^ 64 → at ≤ length s → ended v ≡ body (run d) k (rest s at) → v ≡ End n → Fits w64 (at + n)
-body-fits d k s at n v l h e q = omega (arith, body-in d s at n v h k e q)
+    pub run-sized : (wide : Bool) → isPlain code ≡ true → 160 ≤ code → wide ≡ false → r ≡ placeAfter (at + 1) (times count (variableEnd (widthOf wide)) (drop (at + 1) s)) → r ≡ placeAfter at (run d count (drop at s))
+    unfolding body
+    run-sized wide p l e q = q ∙ rw e (sym (runs d count (variable 1) (deep d r z) (plain-variable code p l)))
 
--- ---- bodies
+    module _ (k : Code) (o : codeSaid k ≡ kindOf code) where
+      pub code-unknown : (code ≡ 0 → ⊥) → k ≡ Unknown → 0 ≡ placeAfter at (run d count (drop at s))
+      code-unknown n u = place-none at 6 _ (sym (run-unknown d count (drop at s) (λ q. omega (arith, length-drop at s)) (λ q. n (sym (front s at) ∙ q)) (ap kindOf (front s at) ∙ sym o ∙ ap codeSaid u)))
+
+      module _ (kind : K.Kind) (u : k ≡ Known kind) where
+        is : kindOf code ≡ accept (kindSaid kind)
+        is = sym o ∙ ap codeSaid u
+
+        bodies : r ≡ placeAfter (at + 1) (times count (body (run (d - 1)) (kindSaid kind)) (drop (at + 1) s)) → r ≡ placeAfter at (run d count (drop at s))
+        bodies q = q ∙ sym (runs d count (kindSaid kind) (deep d r z) is)
+
+        pub bodies-fixed : (c w : ℕ) → kind ≡ Fixed c → w ≡ fixedWidth c → r ≡ placeAfter (at + 1) (bytes (count * w) (drop (at + 1) s)) → r ≡ placeAfter at (run d count (drop at s))
+        unfolding body
+        bodies-fixed c w e f q = bodies (q ∙ rw (e, ← f) (ap (placeAfter (at + 1)) (sym (times-bytes w count (drop (at + 1) s)))))
+
+        pub bodies-boolean : kind ≡ Boolean → r ≡ placeAfter (at + 1) (times count booleanEnd (drop (at + 1) s)) → r ≡ placeAfter at (run d count (drop at s))
+        unfolding body
+        bodies-boolean e q = bodies (q ∙ rw e)
+
+        pub bodies-variable : (wide : Bool) → kind ≡ Variable wide → r ≡ placeAfter (at + 1) (times count (variableEnd (widthOf wide)) (drop (at + 1) s)) → r ≡ placeAfter at (run d count (drop at s))
+        unfolding body
+        bodies-variable wide e q = bodies (q ∙ rw e)
+
+        module _ (shape : ℕ) (wide : Bool) (q : r ≡ placeAfter (at + 1) (times count (compoundEnd (run (d - 1)) (shapeOf shape) (widthOf wide)) (drop (at + 1) s))) where
+          pub bodies-list : kind ≡ Lists wide → shape ≡ 0 → r ≡ placeAfter at (run d count (drop at s))
+          unfolding body
+          bodies-list e n = bodies (q ∙ rw (e, n))
+
+          pub bodies-map : kind ≡ Map wide → shape ≡ 1 → r ≡ placeAfter at (run d count (drop at s))
+          unfolding body
+          bodies-map e n = bodies (q ∙ rw (e, n))
+
+          pub bodies-array : kind ≡ Array wide → shape ≡ 2 → r ≡ placeAfter at (run d count (drop at s))
+          unfolding body
+          bodies-array e n = bodies (q ∙ rw (e, n))
+
+  -- ---- run_end
+
+  module _ (d count : ℕ) where
+    filled : length (drop at s) ≡ 0 → ⊥
+    filled q = omega (arith, length-drop at s)
+
+    pub run-shallow : code ≡ 0 → d ≡ 0 → 0 ≡ placeAfter at (run d count (drop at s))
+    run-shallow e z = rw z (place-none at 6 _ (sym (run-undescribed count (drop at s) filled (front s at ∙ e))))
+
+    pub run-describes : (r : ℕ) → code ≡ 0 → (d ≡ 0 → ⊥) → r ≡ placeAfter (at + 1) (followedBy (run (d - 1) 1) (run (d - 1) count) (drop (at + 1) s)) → r ≡ placeAfter at (run d count (drop at s))
+    run-describes r e z q = q ∙ sym (describes d count z e)
+
+    module _ (b : Bool) (k : b ≡ isKnown code) (e : count ≡ 0) where
+      pub none-known : b ≡ true → at + 1 ≡ placeAfter at (run d count (drop at s))
+      none-known t =
+          let x = known-kind code (sym k ∙ t) in
+          rw e (place-of at 1 _ (run-none-of d (drop at s) filled (x .0) (ap kindOf (front s at) ∙ x .1)))
+
+      pub none-unknown : (code ≡ 0 → ⊥) → b ≡ false → 0 ≡ placeAfter at (run d count (drop at s))
+      none-unknown n t = place-none at 6 _ (sym (run-unknown d count (drop at s) filled (λ q. n (sym (front s at) ∙ q)) (ap kindOf (front s at) ∙ unknown-kind code (sym k ∙ t))))
+
+    pub run-deep : (count ≡ 0 → ⊥) → d ≡ 0 → 0 ≡ placeAfter at (run d count (drop at s))
+    run-deep n z = rw z (place-none at 6 _ (sym (run-bodies count (drop at s) n)))
+
+pub run-one : (s : List ℕ) (at d count r : ℕ) → count ≡ 1 → r ≡ placeAfter at (valueEnd d (drop at s)) → r ≡ placeAfter at (run d count (drop at s))
+unfolding valueEnd
+run-one s at d count r e q = rw e q
+
+pub one-value : (s : List ℕ) (at d r : ℕ) → r ≡ placeAfter at (run d 1 (drop at s)) → r ≡ placeAfter at (valueEnd d (drop at s))
+unfolding valueEnd
+one-value s at d r q = q
+
+pub value-shallow : (s : List ℕ) (at d : ℕ) → d ≡ 0 → 0 ≡ placeAfter at (valueEnd d (drop at s))
+unfolding valueEnd run
+value-shallow s at d z = rw z
+
+pub run-past : (s : List ℕ) (at d count : ℕ) → length s ≤ at → 0 ≡ placeAfter at (run d count (drop at s))
+run-past s at d count h = place-none at 6 _ (sym (run-none d count (drop at s) (ap length (drop-past s at h))))
 
 -- a count of 32 bits times a width of 32
-pub product-fits : (a b : ℕ) → Fits w32 a → Fits w32 b → Fits w64 (a * b)
+pub product-fits : (a b : ℕ) → a < 2 ^ 32 → Fits w32 b → Fits w64 (a * b)
 product-fits a b h k = let m : a * b ≤ a * 2 ^ 32 = mul-le-mul-left a (le-of-lt (k .fits)) in omega arith
 
-pub bodies-fixed : (d count c w : ℕ) (kind : K.Kind) (s : List ℕ) (v : Value) → kind ≡ Fixed c → w ≡ fixedWidth c → ended v ≡ bytes (count * w) s → ended v ≡ times count (body (run d) (kindSaid kind)) s
-unfolding body
-bodies-fixed d count c w kind s v e f q = rw (e, ← f) (q ∙ sym (times-bytes w count s))
+-- ---- described_end
 
--- ---- body
+module _ (s : List ℕ) (at d next : ℕ) (p : next ≡ placeAfter at (valueEnd d (drop at s))) where
+  pub described-off : (g : Reader) → next ≡ 0 → 0 ≡ placeAfter at (followedBy (run d 1) g (drop at s))
+  unfolding valueEnd followedBy andThen
+  described-off g z = rw (run-off d 1 at s next p z)
 
-module _ (d : ℕ) (kind : K.Kind) (s : List ℕ) (v : Value) where
-  pub body-fixed : (c w : ℕ) → kind ≡ Fixed c → w ≡ fixedWidth c → ended v ≡ bytes w s → ended v ≡ body (run d) (kindSaid kind) s
-  unfolding body
-  body-fixed c w e f q = rw (e, ← f) q
+  pub described-on : (count r : ℕ) → (next ≡ 0 → ⊥) → r ≡ placeAfter next (run d count (drop next s)) → r ≡ placeAfter at (followedBy (run d 1) (run d count) (drop at s))
+  unfolding valueEnd followedBy andThen
+  described-on count r z q =
+      let e : at + (next - at) ≡ next = omega (arith, run-in d 1 at s next p z) in
+      q ∙ rw (run-on d 1 at s next p z, place-plus, drop-drop, e)
 
-  pub body-boolean : kind ≡ Boolean → ended v ≡ booleanEnd s → ended v ≡ body (run d) (kindSaid kind) s
-  unfolding body
-  body-boolean e q = rw e q
+  pub next-in : (next ≡ 0 → ⊥) → next ≤ length s
+  next-in z = place-in d at s next p z .1
 
-  pub body-variable : (wide : Bool) → kind ≡ Variable wide → ended v ≡ variableEnd (widthOf wide) s → ended v ≡ body (run d) (kindSaid kind) s
-  unfolding body
-  body-variable wide e q = rw e q
+-- ---- items_end
 
-  pub body-compound : (shape : C.Shape) (wide : Bool) → kind ≡ Compound shape wide → ended v ≡ compoundEnd (run d) (shapeSaid shape) (widthOf wide) s → ended v ≡ body (run d) (kindSaid kind) s
-  unfolding body
-  body-compound shape wide e q = rw e q
-
--- ---- compound
-
-module _ (s : List ℕ) (shape : C.Shape) (wide : Bool) (o : Opening) (q : openingSaid o ≡ opening (shapeSaid shape) (widthOf wide) s) where
-  pub compound-unopened : (d : ℕ) → o ≡ Unopened → refuse 6 ≡ compoundEnd (run d) (shapeSaid shape) (widthOf wide) s
-  unfolding compoundEnd andThen
-  compound-unopened d p = rw (← q, p)
-
-  module _ (size count : ℕ) (p : o ≡ Counted size count) (w : ℕ) (e : w ≡ widthOf wide) where
-    items-lie : (w ≤ size) × (w + size ≤ length s)
-    items-lie =
-        let k : Opens (widthOf wide) (length s) (size, count) = holds-accept (Opens (widthOf wide) (length s)) _ (size, count) (opening-holds (shapeSaid shape) (widthOf wide) s) (sym q ∙ ap openingSaid p) in
-        rw e k
-
-    pub items-from : w + w ≤ w + size
-    items-from = omega (arith, items-lie .0)
-
-    pub from-fits : Fits w64 (w + w)
-    from-fits = omega (arith, width-le wide)
-
-    pub items-end : w + size ≤ length s
-    items-end = items-lie .1
-
-    module _ (d : ℕ) (u : Value) (f : ended u ≡ items (run d) (shapeSaid shape) count (take ((w + size) - (w + w)) (drop (w + w) s))) where
-      there : items (run d) (shapeSaid shape) count (take (size - w) (drop (w + w) s)) ≡ ended u
-      there = let k : (w + size) - (w + w) ≡ size - w = omega (arith, items-lie .0) in sym (rw k at f)
-
-      pub compound-off : u ≡ Malformed → refuse 6 ≡ compoundEnd (run d) (shapeSaid shape) (widthOf wide) s
-      unfolding compoundEnd andThen
-      compound-off g = rw (← q, p, ← e, there, g)
-
-      module _ (n : ℕ) (g : u ≡ End n) where
-        items-in : (w + w) + n ≤ w + size
-        items-in =
-            let t : List ℕ = take (size - w) (drop (w + w) s) in
-            let b : n ≤ length t = holds-accept (λ (m : ℕ). m ≤ length t) _ n (within-items (run d) (within-run d) (shapeSaid shape) count t) (there ∙ ap ended g) in
-            omega (arith, length-take (size - w) (drop (w + w) s), items-lie .0)
-
-        pub compound-filled : (w + w) + n ≡ w + size → accept (w + size) ≡ compoundEnd (run d) (shapeSaid shape) (widthOf wide) s
-        unfolding compoundEnd andThen
-        compound-filled h =
-            let k : w + n ≡ size = omega arith in
-            rw (← q, p, ← e, there, g) (sym (require-on _ _ _ (eq-eqb _ _ k)))
-
-        pub compound-other : ((w + w) + n ≡ w + size → ⊥) → refuse 6 ≡ compoundEnd (run d) (shapeSaid shape) (widthOf wide) s
-        unfolding compoundEnd andThen
-        compound-other h =
-            let k : w + n ≡ size → ⊥ = λ k. h (omega arith) in
-            rw (← q, p, ← e, there, g) (sym (require-off _ _ _ (ne-eqb _ _ k)))
-
-        pub filled-fits : length s < 2 ^ 64 → Fits w64 ((w + w) + n)
-        filled-fits l = omega (arith, items-in, items-lie .1)
-
--- ---- items
-
-pub items-array : (d count : ℕ) (shape : C.Shape) (s : List ℕ) (v : Value) → shape ≡ Array → ended v ≡ run d count s → ended v ≡ items (run d) (shapeSaid shape) count s
+pub items-array : (s : List ℕ) (at d shape count r : ℕ) → shape ≡ 2 → r ≡ placeAfter at (run d count (drop at s)) → r ≡ placeAfter at (items (run d) (shapeOf shape) count (drop at s))
 unfolding items
-items-array d count shape s v a e = rw a e
+items-array s at d shape count r e q = rw e q
 
 -- a list's or a map's are values, one after the other
-items-each : (d count : ℕ) (shape : C.Shape) (s : List ℕ) → (tagOf the-type shape ≡ 0) ⊎ (tagOf the-type shape ≡ 1) → items (run d) (shapeSaid shape) count s ≡ times count (run d 1) s
+pub items-each : (s : List ℕ) (at d shape count : ℕ) → (shape ≡ 2 → ⊥) → placeAfter at (items (run d) (shapeOf shape) count (drop at s)) ≡ left (run d 1) s count 0 at
 unfolding items
-items-each d count Lists s h = refl
-items-each d count Map s h = refl
-items-each d count Array s h = absurd (⊎-elim (λ e. omega arith) (λ e. omega arith) h)
+items-each s at d shape count n = go (eqb shape 1) refl ∙ turn-first (run d 1) s count at
+  where
+    go : (b : Bool) → eqb shape 1 ≡ b → placeAfter at (items (run d) (shapeOf shape) count (drop at s)) ≡ placeAfter at (times count (run d 1) (drop at s))
+    go true e = rw e
+    go false e = rw (e, ne-eqb shape 2 n)
 
-module _ (d : ℕ) (shape : C.Shape) (s : List ℕ) (count i at : ℕ) (k : (tagOf the-type shape ≡ 0) ⊎ (tagOf the-type shape ≡ 1)) (inv : times count (run d 1) s ≡ left (run d 1) s count i at) where
-  pub each-ends : count ≤ i → accept at ≡ items (run d) (shapeSaid shape) count s
-  each-ends h = ends _ _ _ _ _ _ inv h ∙ sym (items-each d count shape s k)
+pub as-run : (s : List ℕ) (end d next : ℕ) → next ≡ placeAfter end (valueEnd d (drop end s)) → next ≡ placeAfter end (run d 1 (drop end s))
+unfolding valueEnd
+as-run s end d next e = e
 
-  pub each-stops : (v : Value) → i < count → ended v ≡ run d 1 (rest s at) → v ≡ Malformed → refuse 6 ≡ items (run d) (shapeSaid shape) count s
-  each-stops v h e q = stops _ _ _ _ _ _ inv v h e q ∙ sym (items-each d count shape s k)
+-- ---- paired
+
+module _ (shape count : ℕ) where
+  pub paired-map : shape ≡ 1 → eqb (count % 2) 0 ≡ pairedIn (shapeOf shape) count
+  unfolding pairedIn
+  paired-map e = rw e
+
+  pub paired-other : (shape ≡ 1 → ⊥) → true ≡ pairedIn (shapeOf shape) count
+  unfolding pairedIn
+  paired-other n = go (eqb shape 2) refl
+    where
+      go : (b : Bool) → eqb shape 2 ≡ b → true ≡ pairedIn (shapeOf shape) count
+      go true e = rw (ne-eqb shape 1 n, e)
+      go false e = rw (ne-eqb shape 1 n, e)
+
+-- ---- value_end
+
+module _ (s : List ℕ) (d end : ℕ) (v : Value) (e : end ≡ placeAfter 0 (valueEnd d (drop 0 s))) (q : ended v ≡ cond (eqb end 0) (refuse 6) (accept end)) where
+  pub value-is : ended v ≡ valueEnd d s
+  value-is = q ∙ go (eqb end 0) refl
+    where
+      go : (b : Bool) → eqb end 0 ≡ b → cond b (refuse 6) (accept end) ≡ valueEnd d s
+      go true t = sym (place-off d 0 s end e (eqb-true end 0 t))
+      go false t = rw (sub-zero end) at (sym (place-on d 0 s end e (eqb-false end 0 t)))
+
+pub value-plain : (s : List ℕ) (d end : ℕ) (v : Value) (b : Bool) → (length s ≡ 0 → ⊥) → b ≡ isPlain (getD s 0 0) → b ≡ true → (d ≡ 0 → ⊥) → end ≡ placeAfter 0 (valueEnd 1 (drop 0 s)) → ended v ≡ cond (eqb end 0) (refuse 6) (accept end) → ended v ≡ valueEnd d s
+value-plain s d end v b h p t z e q = value-is s d end v (plain-deep s 0 (omega (arith, h)) (sym p ∙ t) end d z e) q
+
+pub value-empty : (d : ℕ) (s : List ℕ) → length s ≡ 0 → refuse 6 ≡ valueEnd d s
+unfolding valueEnd
+value-empty d s h = run-none d 1 s h
+
+pub value-nowhere : (d : ℕ) (s : List ℕ) → d ≡ 0 → refuse 6 ≡ valueEnd d s
+unfolding valueEnd run
+value-nowhere d s z = rw z
+
+pub value-none : (end : ℕ) → end ≡ 0 → refuse 6 ≡ cond (eqb end 0) (refuse 6) (accept end)
+value-none end z = rw (eq-eqb end 0 z)
+
+pub value-some : (end : ℕ) → (end ≡ 0 → ⊥) → accept end ≡ cond (eqb end 0) (refuse 6) (accept end)
+value-some end z = rw (ne-eqb end 0 z)

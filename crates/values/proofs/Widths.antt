@@ -3,12 +3,12 @@
 use mathlib.Core.Path.{_≡_, refl, sym}
 use mathlib.Core.Bool.{Bool, true, false, cond}
 use mathlib.Core.List.{List, [], _∷_, map}
-use mathlib.Core.Option.{Option, none, some}
+use mathlib.Core.Option.{Option, some}
 use Prim.Native.Nat.{ℕ}
 use native.Mathlib.Omega.{arith}
 use lib.Dec.{eqb}
 use borrow.Author.Tests.{eqb-true}
-use Rattle.octets.specs.Verdict.{refuse, accept}
+use Rattle.octets.specs.Verdict.{accept}
 use Rattle.values.specs.Value.{Kind, boolean, codes, kindIn, kindOf}
 use Rattle.values.specs.Widths.{fixedWidth, widthAt, widthIn}
 

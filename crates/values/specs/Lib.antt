@@ -1,4 +1,5 @@
 pub mod Value
 pub mod Widths
+pub mod Plain
 pub mod Answers
 pub mod Null

@@ -1,69 +1,66 @@
--- `described_list`: the descriptor, and the list that stands after it.
+-- `described_list`: a short one at once, and any other by `any_described`.
 -- Assumes nothing.
+use native.Mathlib.Omega.{arith}
 use borrow.Author.Needs.{needs}
-use Rattle.performatives.proofs.Descriptors.{described-not, list-from, described-malformed, from-fits, end-fits, described-is}
+use Rattle.performatives.proofs.Short.{short-room, short-described}
 use Rattle.performatives.proofs.described_list.Statement.{statement}
 use Rattle.performatives.proofs.described_list.Tie as tie
 
-ruleset steps = (described-not, list-from, described-malformed, from-fits, end-fits, described-is, needs)
+ruleset steps = (short-room, short-described, needs)
 
-descriptor-at-requires : tie.Need-descriptor-at-requires
-descriptor-at-requires c κs = search steps
+is-short-requires : tie.Need-is-short-requires
+is-short-requires c κs = search steps
 
-enum-known-code : tie.Need-enum-known-code
-enum-known-code c = search steps
+shared-slice-read-wide : tie.Need-shared-slice-read-wide
+shared-slice-read-wide c = omega (arith, short-room _ _ (c .before .before .is-short .ensures) (c .before .if1 .taken))
 
-enum-told : tie.Need-enum-told
-enum-told c = search steps
+wide-requires : tie.Need-wide-requires
+wide-requires c κs = search steps
+
+sub-if3 : tie.Need-sub-if3
+sub-if3 c = omega (arith, short-room _ _ (c .before .before .before .before .is-short .ensures) (c .before .before .before .if1 .taken))
+
+shared-slice-read-wide-2 : tie.Need-shared-slice-read-wide-2
+shared-slice-read-wide-2 c = search steps
+
+wide-requires-2 : tie.Need-wide-requires-2
+wide-requires-2 c κs = search steps
+
+shared-slice-read-wide-3 : tie.Need-shared-slice-read-wide-3
+shared-slice-read-wide-3 c = search steps
+
+wide-requires-3 : tie.Need-wide-requires-3
+wide-requires-3 c κs = search steps
+
+cast-t17 : tie.Need-cast-t17
+cast-t17 c = search steps
+
+add-t18 : tie.Need-add-t18
+add-t18 c = search steps
 
 returns : tie.Need-returns
 returns c = search steps
 
-sub-list-at : tie.Need-sub-list-at
-sub-list-at c = search steps
-
-part-list-at-start : tie.Need-part-list-at-start
-part-list-at-start c = search steps
-
-part-list-at-end : tie.Need-part-list-at-end
-part-list-at-end c = search steps
-
-list-at-requires : tie.Need-list-at-requires
-list-at-requires c κs = search steps
-
-enum-known-count : tie.Need-enum-known-count
-enum-known-count c = search steps
-
-enum-told-2 : tie.Need-enum-told-2
-enum-told-2 c = search steps
+any-described-requires : tie.Need-any-described-requires
+any-described-requires c κs = search steps
 
 returns-2 : tie.Need-returns-2
 returns-2 c = search steps
-
-add-t10 : tie.Need-add-t10
-add-t10 c = search steps
-
-add-t13 : tie.Need-add-t13
-add-t13 c = search steps
-
-returns-3 : tie.Need-returns-3
-returns-3 c = search steps
 
 pub described-list-spec : {M : Type 1} → statement M
 described-list-spec =
     tie.close
     (tie.spec
-    descriptor-at-requires
-    enum-known-code
-    enum-told
+    is-short-requires
+    shared-slice-read-wide
+    wide-requires
+    sub-if3
+    shared-slice-read-wide-2
+    wide-requires-2
+    shared-slice-read-wide-3
+    wide-requires-3
+    cast-t17
+    add-t18
     returns
-    sub-list-at
-    part-list-at-start
-    part-list-at-end
-    list-at-requires
-    enum-known-count
-    enum-told-2
-    returns-2
-    add-t10
-    add-t13
-    returns-3)
+    any-described-requires
+    returns-2)

@@ -1,11 +1,11 @@
 -- `remote_channel`: null, or the bytes after the format code.
 -- Assumes nothing.
 use borrow.Author.Needs.{needs}
-use Rattle.performatives.proofs.Numbers.{channel-null, number-some, channel-fits, channel-is}
+use Rattle.performatives.proofs.Numbers.{channel-null, channel-some, channel-fits, channel-is}
 use Rattle.performatives.proofs.remote_channel.Statement.{statement}
 use Rattle.performatives.proofs.remote_channel.Tie as tie
 
-ruleset steps = (channel-null, number-some, channel-fits, channel-is, needs)
+ruleset steps = (channel-null, channel-some, channel-fits, channel-is, needs)
 
 item-requires : tie.Need-item-requires
 item-requires c κs = search steps

@@ -11,7 +11,7 @@ use Rattle.session_frame.proofs.+put_fields.Lts-put_fields as put-field
 use Rattle.performatives.proofs.field_row.Reads as field-row-reads
 use Rattle.session_frame.proofs.first_len.Reads as first-len-reads
 use Rattle.session_frame.proofs.one_less.Reads as one-less-reads
-use Rattle.session_frame.proofs.put_field.Reads as put-field-reads
+use Rattle.session_frame.proofs.field.put_field.Reads as put-field-reads
 use Rattle.session_frame.proofs.+put_fields.{statement}
 use Rattle.session_frame.proofs.+put_fields.Tie.{close}
 

@@ -11,8 +11,8 @@ use Rattle.session_frame.proofs.trim_fields.Reads as trim-fields
 use Rattle.session_frame.proofs.trim_fields.Kinds as trim-fields-kinds
 use Rattle.session_frame.proofs.+trim_fields.Lts-trim_fields as trim-fields-lts
 use Rattle.performatives.proofs.field_row.Reads as field-row-reads
-use Rattle.session_frame.proofs.before.Reads as before-reads
-use Rattle.session_frame.proofs.field_size.Reads as field-size-reads
+use Rattle.session_frame.proofs.field.before.Reads as before-reads
+use Rattle.session_frame.proofs.field.field_size.Reads as field-size-reads
 use Rattle.session_frame.proofs.first_len.Reads as first-len-reads
 use Rattle.session_frame.proofs.one_less.Reads as one-less-reads
 use Rattle.session_frame.proofs.+trim_fields.{statement}

@@ -10,17 +10,17 @@ ruleset steps = (kept-low, len-low, next-fits, fields-room, frame-laid, needs)
 put-head-requires : tie.Need-put-head-requires
 put-head-requires c κs = search steps
 
-sub-put-fields : tie.Need-sub-put-fields
-sub-put-fields c = search steps
+sub-put-all : tie.Need-sub-put-all
+sub-put-all c = search steps
 
-part-put-fields-start : tie.Need-part-put-fields-start
-part-put-fields-start c = search steps
+part-put-all-start : tie.Need-part-put-all-start
+part-put-all-start c = search steps
 
-part-put-fields-end : tie.Need-part-put-fields-end
-part-put-fields-end c = search steps
+part-put-all-end : tie.Need-part-put-all-end
+part-put-all-end c = search steps
 
-put-fields-requires : tie.Need-put-fields-requires
-put-fields-requires c κs = search steps
+put-all-requires : tie.Need-put-all-requires
+put-all-requires c κs = search steps
 
 add-copy : tie.Need-add-copy
 add-copy c = search steps
@@ -48,10 +48,10 @@ put-frame-spec =
     tie.close
     (tie.spec
     put-head-requires
-    sub-put-fields
-    part-put-fields-start
-    part-put-fields-end
-    put-fields-requires
+    sub-put-all
+    part-put-all-start
+    part-put-all-end
+    put-all-requires
     add-copy
     sub-copy
     part-copy-start

@@ -20,17 +20,17 @@ enum-told c = search steps
 returns : tie.Need-returns
 returns c = search steps
 
-sub-trim-fields : tie.Need-sub-trim-fields
-sub-trim-fields c = search steps
+sub-trim-all : tie.Need-sub-trim-all
+sub-trim-all c = search steps
 
-part-trim-fields-start : tie.Need-part-trim-fields-start
-part-trim-fields-start c = search steps
+part-trim-all-start : tie.Need-part-trim-all-start
+part-trim-all-start c = search steps
 
-part-trim-fields-end : tie.Need-part-trim-fields-end
-part-trim-fields-end c = search steps
+part-trim-all-end : tie.Need-part-trim-all-end
+part-trim-all-end c = search steps
 
-trim-fields-requires : tie.Need-trim-fields-requires
-trim-fields-requires c κs = search steps
+trim-all-requires : tie.Need-trim-all-requires
+trim-all-requires c κs = search steps
 
 cast-header-len : tie.Need-cast-header-len
 cast-header-len c = search steps
@@ -76,10 +76,10 @@ write-body-spec =
     enum-known-code
     enum-told
     returns
-    sub-trim-fields
-    part-trim-fields-start
-    part-trim-fields-end
-    trim-fields-requires
+    sub-trim-all
+    part-trim-all-start
+    part-trim-all-end
+    trim-all-requires
     cast-header-len
     header-len-requires
     add-size

@@ -1,30 +1,21 @@
--- `paired`: by the shape.
+-- `paired`: one law for each answer.
 -- Assumes nothing.
 use borrow.Author.Needs.{needs}
-use Rattle.values.specs.Value.{pairedIn}
+use Rattle.values.proofs.Steps.{paired-map, paired-other}
 use Rattle.values.proofs.paired.Statement.{statement}
 use Rattle.values.proofs.paired.Tie as tie
 
-enum-told : tie.Need-enum-told
-enum-told c = search needs
-
-enum-told-2 : tie.Need-enum-told-2
-enum-told-2 c = search needs
-
-enum-told-3 : tie.Need-enum-told-3
-enum-told-3 c = search needs
+ruleset steps = (paired-map, paired-other, needs)
 
 returns : tie.Need-returns
-unfolding pairedIn
-returns c = rw (c .enum-told .given .1)
+returns c = search steps
 
 returns-2 : tie.Need-returns-2
-unfolding pairedIn
-returns-2 c = rw (c .enum-told2 .given .1)
-
-returns-3 : tie.Need-returns-3
-unfolding pairedIn
-returns-3 c = rw (c .enum-told3 .given .1)
+returns-2 c = search steps
 
 pub paired-spec : {M : Type 1} → statement M
-paired-spec = tie.close (tie.spec enum-told enum-told-2 enum-told-3 returns returns-2 returns-3)
+paired-spec =
+    tie.close
+    (tie.spec
+    returns
+    returns-2)

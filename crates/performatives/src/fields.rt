@@ -1,0 +1,162 @@
+// The table of fields, and whether the values of a list may stand in the fields of a performative.
+use crate::Default;
+use crate::FieldType;
+use crate::Row;
+use crate::composite::starts_with;
+use crate::error::is_error;
+use values::DEPTH;
+ghost use mathlib.Core.Path.{_≡_};
+ghost use mathlib.Core.Option.{some};
+ghost use Rattle.octets.specs.Verdict.{accepts};
+ghost use Rattle.performatives.specs.Fields.{may, must, defaults};
+ghost use Rattle.performatives.specs.Performative.{fits, fieldsBy};
+ghost use Rattle.performatives.specs.Answers.{typeSays, rowSays};
+ghost use Rattle.performatives.specs.Inner.{rowsFrom, rowNamed, RowsIn, suits};
+
+// The letters of the words below: what a field is. One that is mandatory begins with MUST, and in one that ends with MAX null stands for the greatest number.
+// 0 is past the last field.
+const ANY: u64 = 1;
+
+const STRING: u64 = 2;
+
+const MUST_STRING: u64 = 3;
+
+const UINT: u64 = 4;
+
+const MUST_UINT: u64 = 5;
+
+const UINT_OR_MAX: u64 = 6;
+
+const USHORT: u64 = 7;
+
+const USHORT_OR_MAX: u64 = 8;
+
+const ERROR: u64 = 9;
+
+// A word for each performative. Its last fourteen hexadecimal digits are the letters of its fields, the last one that of the first field; before them stands
+// the least number of fields such that none that is mandatory is missing. A `match`, since an array would be laid on the stack at each use.
+pub(crate) fn rows_of(code: u64) -> u64
+    ensures { λ r. ⌜ RowsIn code r ⌝ }
+{
+    match code {
+        16 => 0x01_00001111148623, // Open
+        17 => 0x04_00000011165557, // Begin
+        18 => 0x00_11111111111111, // Attach
+        19 => 0x00_00011111111111, // Flow
+        20 => 0x00_00011111111111, // Transfer
+        21 => 0x00_00000000111111, // Disposition
+        22 => 0x00_00000000000911, // Detach
+        23 => 0x00_00000000000009, // End
+        24 => 0x00_00000000000009, // Close
+        _ => 0,
+    }
+}
+
+fn may(kind: FieldType) -> Row
+    ensures { λ r. ⌜ rowSays r ≡ some (may (typeSays kind)) ⌝ }
+{
+    Row::Field {
+        kind,
+        mandatory: false,
+        default: Default::Null,
+    }
+}
+
+fn must(kind: FieldType) -> Row
+    ensures { λ r. ⌜ rowSays r ≡ some (must (typeSays kind)) ⌝ }
+{
+    Row::Field {
+        kind,
+        mandatory: true,
+        default: Default::Null,
+    }
+}
+
+fn defaults(kind: FieldType, n: u32) -> Row
+    ensures { λ r. ⌜ rowSays r ≡ some (defaults (typeSays kind) n) ⌝ }
+{
+    Row::Field {
+        kind,
+        mandatory: false,
+        default: Default::Number(n),
+    }
+}
+
+// The row that a letter stands for.
+pub(crate) fn row_named(letter: u64) -> Row
+    ensures { λ r. ⌜ rowSays r ≡ rowNamed letter ⌝ }
+{
+    match letter {
+        ANY => may(FieldType::Any),
+        STRING => may(FieldType::String),
+        MUST_STRING => must(FieldType::String),
+        UINT => may(FieldType::UInt),
+        MUST_UINT => must(FieldType::UInt),
+        UINT_OR_MAX => defaults(FieldType::UInt, 4294967295),
+        USHORT => may(FieldType::UShort),
+        USHORT_OR_MAX => defaults(FieldType::UShort, 65535),
+        ERROR => may(FieldType::Error),
+        _ => Row::Past,
+    }
+}
+
+// Whether a value may stand in a field.
+fn fits(f: &[u8], kind: FieldType, mandatory: bool) -> bool
+    ensures { λ r. ⌜ r ≡ fits (typeSays kind) mandatory (now (f .entry)) ⌝ }
+{
+    if starts_with(f, &[0x40]) {
+        return !mandatory;
+    }
+    match kind {
+        FieldType::Any => true,
+        FieldType::UShort => starts_with(f, &[0x60]),
+        FieldType::UInt => starts_with(f, &[0x70, 0x52, 0x43]),
+        FieldType::String => starts_with(f, &[0xa1, 0xb1]),
+        FieldType::Error => is_error(f),
+    }
+}
+
+// Whether a value may stand in the field that a letter stands for.
+fn suits(f: &[u8], letter: u64) -> bool
+    ensures { λ r. ⌜ r ≡ suits (rowNamed letter) (now (f .entry)) ⌝ }
+{
+    let Row::Field {
+        kind,
+        mandatory,
+        default: _,
+    } = row_named(letter)
+    else {
+        return false;
+    };
+    fits(f, kind, mandatory)
+}
+
+// Whether the `count` values that have to fill `s` may stand in the fields of a performative. Of a value in a field of any type only its end is looked for.
+pub(crate) fn fields(s: &[u8], code: u64, count: u32) -> bool
+    ensures { λ r. ⌜ r ≡ accepts (fieldsBy (rowsFrom code 0) count (now (s .entry))) ⌝ }
+{
+    if 14 < count {
+        return false;
+    }
+    let word = rows_of(code);
+    let mut at: usize = 0;
+    let mut i: u32 = 0;
+    while i < count {
+        let end = values::end_at(s, at, DEPTH);
+        if end == 0 {
+            return false;
+        }
+        let letter = (word >> (4 * i)) % 16;
+        if letter != ANY {
+            if !suits(&s[at..end], letter) {
+                return false;
+            }
+        }
+        at = end;
+        i += 1;
+    }
+    if (count as u64) < word >> 56 {
+        return false;
+    }
+    at == s.len()
+}
