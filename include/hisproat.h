@@ -77,8 +77,8 @@
  *
  * There are no globals and no thread-local data. Calls on different states may run at the same time. Calls on one state, and on any slice that a call writes
  * to, must come one after the other. Of the C library only memcpy and memset are used.
- * A call keeps copies of the engine on the stack. The most that was measured is 51,968 bytes, in hisproat_on_close_with_error while an Attach waits whose last field
- * has values down to the sixteenth level: give a thread that calls 64 KiB besides its own.
+ * A call keeps copies of the engine on the stack. The most that was measured is 50,712 bytes, in hisproat_on_incoming with a frame for a session
+ * that is not there: give a thread that calls 64 KiB besides its own.
  *
  *
  * EXAMPLE: a listener that reads a whole recorded input. Returns the outcome, or -1 where an argument was refused.
