@@ -63,15 +63,16 @@ passed "the frame reader, beside the engine"
 python3 tests/width.py "$reader" "$archive"
 passed "a width is the few instructions that the document shows"
 
-# the bound on instructions, and that it can fail
+# the bounds on instructions, and that they can fail
 gcc -std=c11 -O2 "${warnings[@]}" tests/c/linear.c "$reader" "$archive" -o "$work/linear"
 tests/prove.sh check bench
 python3 tests/linear.py "$work/linear" target/bin/bench
 if python3 tests/linear.py "$work/linear" target/bin/bench slow > "$work/slow.log" 2>&1; then
-    echo "c.sh: the bound does not notice a reader that goes over what is claimed" >&2
+    echo "c.sh: the bounds do not notice a reader that goes over what is claimed" >&2
     exit 1
 fi
 grep -q 'are over the bound of' "$work/slow.log"
+grep -q 'are over a tenth more than' "$work/slow.log"
 passed "reading takes instructions for bytes, and none for claims"
 
 "$work/hub" examples/pads.amqp | diff - examples/hub.out

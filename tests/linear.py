@@ -99,8 +99,9 @@ def main():
     if how == ["record"]:
         print("\n".join(f"{count} {reading}" for reading, count in counts.items() if is_held(reading)))
         sys.exit(0)
-    faults = over_bound(counts) + grown(counts)
-    for fault in faults[:5]:
+    over, more = over_bound(counts), grown(counts)
+    faults = over + more
+    for fault in over[:5] + more[:5]:
         print(f"linear.py: {fault}")
     most = {way: max((n // int(r.split()[1]) for r, n in counts.items() if r.split()[0] == way and int(r.split()[1]) > 4000), default=0) for way in WAYS}
     if 0 in most.values():

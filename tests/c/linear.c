@@ -208,6 +208,7 @@ static void grown(Frame *f, uint8_t holder, const char *constructor, const char 
         put_hex(f, element);
     close_compound(f, held);
     set_number(f, held + 4, count);
+    f->claimed = count;
     finish(f, list);
     read_frame(f, name);
 }
