@@ -223,6 +223,8 @@ static void ordinary(Frame *f, size_t bytes)
     grown(f, 0xD0, "", "004040", bytes, "a list of nulls that nulls describe");
     grown(f, 0xD0, "", "0000404040", bytes, "a list of values that described values describe");
     grown(f, 0xD0, "", "0040004040", bytes, "a list of described described values");
+    grown(f, 0xD0, "", "000000000000000000000000004040404040404040404040404040", bytes, "a list of values that described values describe, thirteen deep");
+    grown(f, 0xD0, "", "004000400040004000400040004000400040004000400040004040", bytes, "a list of described described values, thirteen deep");
     grown(f, 0xD0, "", "C00100", bytes, "a list of lists without elements");
     grown(f, 0xD0, "", "C00B01C00801C00501C0020140", bytes, "a list of lists in lists");
     grown(f, 0xD0, "", "C02301C02001C01D01C01A01C01701C01401C01101C00E01C00B01C00801C00501C0020140", bytes, "a list of lists, twelve deep");
