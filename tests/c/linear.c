@@ -12,7 +12,7 @@
 
 enum { LONGEST = 70000, CHANNEL_MAX = 7, MOST_STEPS = 100000 };
 
-/* A frame in the making: an Attach with one field. */
+/* A frame in the making. */
 typedef struct {
     uint8_t at[LONGEST];
     size_t len;
@@ -62,14 +62,21 @@ static void close_compound(Frame *f, size_t at)
     set_number(f, at, f->len - at - 4);
 }
 
-/* Returns the place of the size of the Attach's list. */
-static size_t start(Frame *f, uint8_t returned)
+/* A performative with so many fields. Returns the place of the size of its list. */
+static size_t start_with(Frame *f, uint8_t performative, uint32_t fields, uint8_t returned)
 {
     f->len = 0;
     f->claimed = 0;
     f->returned = returned;
-    put_hex(f, "0000000002000000005312");
-    return open_compound(f, 0xD0, 1);
+    put_hex(f, "00000000020000000053");
+    put(f, performative);
+    return open_compound(f, 0xD0, fields);
+}
+
+/* An Attach with one field. */
+static size_t start(Frame *f, uint8_t returned)
+{
+    return start_with(f, 0x12, 1, returned);
 }
 
 static void finish(Frame *f, size_t list)
@@ -197,11 +204,12 @@ static void false_claims(Frame *f)
     }
 }
 
-/* ---- Ordinary frames of about so many bytes: a list, map or array of one element over and over */
+/* ---- Ordinary frames of about so many bytes: a list, map or array of one element over and over, in an Attach's one field */
 
-static void grown(Frame *f, uint8_t holder, const char *constructor, const char *element, size_t bytes, const char *name)
+/* Fills the frame up to so many bytes. */
+static void fill(Frame *f, uint8_t holder, const char *constructor, const char *element, size_t bytes)
 {
-    size_t list = start(f, 0), held = open_compound(f, holder, 0);
+    size_t held = open_compound(f, holder, 0);
     put_hex(f, constructor);
     uint32_t count = (uint32_t)((bytes - f->len) / (strlen(element) / 2)) & ~1u;
     for (uint32_t i = 0; i < count; i++)
@@ -209,6 +217,12 @@ static void grown(Frame *f, uint8_t holder, const char *constructor, const char 
     close_compound(f, held);
     set_number(f, held + 4, count);
     f->claimed = count;
+}
+
+static void grown(Frame *f, uint8_t holder, const char *constructor, const char *element, size_t bytes, const char *name)
+{
+    size_t list = start(f, 0);
+    fill(f, holder, constructor, element, bytes);
     finish(f, list);
     read_frame(f, name);
 }
@@ -232,6 +246,8 @@ static void ordinary(Frame *f, size_t bytes)
     grown(f, 0xD0, "", "E0020040", bytes, "a list of empty arrays");
     grown(f, 0xD0, "", "E003015601", bytes, "a list of arrays of a boolean");
     grown(f, 0xD0, "", "E00402004040", bytes, "a list of arrays of described nulls");
+    grown(f, 0xD0, "", "E0020240", bytes, "a list of arrays of two nulls");
+    grown(f, 0xD0, "", "00E00602C101000100E00602C101000100", bytes, "a list of arrays of two maps that such arrays describe");
     grown(f, 0xD0, "", "F000000005FFFFFFFF40", bytes, "a list of arrays that claim the most");
     grown(f, 0xD1, "", "40", bytes, "a map of nulls");
     grown(f, 0xF0, "50", "FF", bytes, "an array of octets");
@@ -244,7 +260,40 @@ static void ordinary(Frame *f, size_t bytes)
     grown(f, 0xF0, "C1", "0100", bytes, "an array of empty maps");
     grown(f, 0xF0, "E0", "020140", bytes, "an array of arrays of a null");
     grown(f, 0xF0, "E0", "020240", bytes, "an array of arrays of two nulls");
+    grown(f, 0xF0, "E0", "0802E0020240020240", bytes, "an array of arrays of arrays of two nulls");
     grown(f, 0xF0, "E0", "1A01E01701E01401E01101E00E01E00B01E00801E00501E0020140", bytes, "an array of arrays, nine deep");
+}
+
+/* Performatives of which an error is told: the long field stands before it, or is the information in it. */
+static void with_errors(Frame *f, size_t bytes)
+{
+    static const struct {
+        uint8_t performative;
+        uint32_t fields;
+        const char *before, *after;
+        const char *name;
+    } LONG[] = {
+        { 0x16, 3, "", "4100531DC00401A30161", "a Detach with a long handle and an error" },
+        { 0x16, 3, "43", "00531DC00401A30161", "a Detach with a long closed and an error" },
+        { 0x16, 3, "4341", "", "a Detach with a long error" },
+        { 0x17, 1, "", "", "an End with a long error" },
+    };
+    for (size_t i = 0; i < sizeof LONG / sizeof LONG[0]; i++) {
+        size_t list = start_with(f, LONG[i].performative, LONG[i].fields, 0), error = 0;
+        int is_error = *LONG[i].after == 0;
+        put_hex(f, LONG[i].before);
+        if (is_error) {
+            put_hex(f, "00531D");
+            error = open_compound(f, 0xD0, 3);
+            put_hex(f, "A3016140");
+        }
+        fill(f, 0xD1, "", "00000000000000000000000040404040404040404040404040", bytes - strlen(LONG[i].after) / 2);
+        if (is_error)
+            close_compound(f, error);
+        put_hex(f, LONG[i].after);
+        finish(f, list);
+        read_frame(f, LONG[i].name);
+    }
 }
 
 /* Frames as peers send them. */
@@ -322,6 +371,7 @@ int main(int argc, char **argv)
     typical(&f);
     for (size_t i = 0; i < sizeof SIZES / sizeof SIZES[0]; i++) {
         ordinary(&f, SIZES[i]);
+        with_errors(&f, SIZES[i]);
         payload(&f, SIZES[i]);
     }
     return 0;

@@ -6,7 +6,7 @@ use mathlib.Core.List.{List, [], _∷_}
 use mathlib.Core.Option.{some}
 use Prim.Native.Nat.{ℕ, zero, suc, _+_, _-_, _≤_}
 use native.Mathlib.Omega.{arith}
-use lib.ListN.{length, take, drop, getD}
+use lib.ListN.{length, take, drop, getD, length-drop}
 use lib.Seq.{drop-nil, take-nil, length-take-le}
 use Rattle.octets.specs.Verdict.{refuse, accept}
 use Rattle.octets.specs.Octets.{startsWith}
@@ -86,6 +86,15 @@ found-start zero (suc k) s fs e = start-zero s fs
 found-start (suc i) (suc k) s fs e =
     let p = split-was k s fs e in
     start-next i s (p .size) fs (p .rest) (p .ends) (p .whole) (found-start i k (drop (p .size) s) (p .rest) (p .others))
+
+-- they fill s
+all-next : (k : ℕ) (s : List ℕ) (n : ℕ) → valueEnd 16 s ≡ accept n → skip k (drop n s) ≡ length (drop n s) → skip (suc k) s ≡ length s
+all-next k s n e h = skip-front k s n e ∙ rw h (omega (arith, value-within 16 s n e, length-drop n s))
+
+pub found-all : (k : ℕ) (s : List ℕ) (fs : List (List ℕ)) → split 16 k s ≡ accept fs → skip k s ≡ length s
+found-all zero s fs e = rw (split-none s fs e .0) (skip-nothing 0)
+found-all (suc k) s fs e =
+    let p = split-was k s fs e in all-next k s (p .size) (p .ends) (found-all k (drop (p .size) s) (p .rest) (p .others))
 
 value-next : (i : ℕ) (s : List ℕ) (n : ℕ) (fs rest : List (List ℕ)) → valueEnd 16 s ≡ accept n → fs ≡ take n s ∷ rest → valueAt i (drop n s) ≡ getD rest i null → valueAt (suc i) s ≡ getD fs (suc i) null
 unfolding valueAt

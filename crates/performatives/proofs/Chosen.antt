@@ -1,7 +1,7 @@
 -- The performative that a descriptor and fields make: what each step of `performative_in` and `read` shows.
 -- Assumes nothing.
 use mathlib.Core.Path.{_≡_, refl, sym, ap, _∙_, subst}
-use mathlib.Core.Bool.{Bool, true, false}
+use mathlib.Core.Bool.{true, false}
 use mathlib.Core.List.{List, [], _∷_}
 use mathlib.Core.Option.{Option, none, some}
 use Prim.Native.Nat.{ℕ, _+_, _-_, _^_, _<_, _≤_}
@@ -10,30 +10,28 @@ use lib.ListN.{length, take, drop, getD}
 use borrow.Author.Tests.{ne-eqb}
 use Rattle.octets.specs.Verdict.{Verdict, refuse, accept, andThen, accepts}
 use Rattle.values.specs.Null.{null, isNull}
+use Rattle.values.proofs.Apart.{accepted, then-was}
 use Rattle.performatives.specs.declared.Performative as C
 use Rattle.performatives.specs.declared.Described as D
 use Rattle.performatives.specs.declared.Described.the-variants.{List as IsDescribed, Malformed as NotDescribed}
+use Rattle.performatives.specs.declared.fields.Fitting.{Fitting}
+use Rattle.performatives.specs.declared.fields.Fitting.the-variants.{Fit, Unfit}
 use Rattle.performatives.specs.Fields.{UShort, UInt, Error, Field, may, defaults, fieldsIn, fieldsOf, fieldIn, fieldOf, fieldAt}
 use Rattle.performatives.specs.Performative.{numberOf, Described, described, split, fit, fits, fieldsBy, rowsFor, Performative, performativeBy, performative, whenNot, conditionAt, condition, remoteChannel, Said, said, valuesIn, valuesOf, performativeSaid}
 use Rattle.performatives.specs.Answers.{describedSays, performativeSays}
-use Rattle.performatives.specs.Inner.{rowsIn, rowsFrom, skip, valueAt, openSays}
-use Rattle.performatives.proofs.Bounds.{fields-six}
-use Rattle.performatives.proofs.Answered.{fields-were, found-start, found-value, fit-at, uint-short, ushort-short}
+use Rattle.performatives.specs.Inner.{rowsIn, rowsFrom, skip, valueAt, fittingSays, lastOf, openSays}
+use Rattle.performatives.proofs.Rows.{at-few}
+use Rattle.performatives.proofs.Answered.{fields-were, found-start, found-all, found-value, fit-at, uint-short, ushort-short}
 
 abbrev pub Out : ℕ → ℕ → ℕ → ℕ → List ℕ → Verdict Said
 Out code count from end s = andThen (performativeBy (record { code = code; count = count; from = from; end = end }) s) (λ p. accept (said p))
 
 -- ---- whether the fields fit
 
-rejected : {A : Type 0} (v : Verdict A) → accepts v ≡ false → ((k : ℕ) → v ≡ refuse k → k ≡ 6) → v ≡ refuse 6
-unfolding accepts
-rejected (refuse k) e h = ap refuse (h k refl)
-rejected (accept a) e h = let z : _≡_ {A = ℕ} 0 1 = cc in absurd (omega arith)
-
-taken : {A : Type 0} (v : Verdict A) → accepts v ≡ true → (a : A) × (v ≡ accept a)
-unfolding accepts
-taken (refuse k) e = let z : _≡_ {A = ℕ} 0 1 = cc in absurd (omega arith)
-taken (accept a) e = (a, refl)
+refused : {A : Type 0} (v : Verdict A) (n : ℕ) → andThen v (λ _. accept n) ≡ refuse 6 → v ≡ refuse 6
+unfolding andThen
+refused (refuse k) n e = let q : k ≡ 6 = cc in ap refuse q
+refused (accept a) n e = let z : _≡_ {A = ℕ} 0 1 = cc in absurd (omega arith)
 
 field-in : (o : Option (List Field)) (i : ℕ) (r : Field) → fieldOf o i ≡ some r → fieldIn (rowsIn o) i ≡ some r
 unfolding fieldOf
@@ -48,13 +46,13 @@ named : (code k end from : ℕ) (fs : List (List ℕ)) (vs : List ℕ) → code 
 named code k end from fs vs e h = rw (e, h)
 
 module _ (s : List ℕ) (code count from end : ℕ) where
-  pub unfit : (a : Bool) → a ≡ accepts (fieldsBy (rowsFrom code 0) count s) → a ≡ false → refuse 6 ≡ Out code count from end s
-  unfolding performativeBy rowsFrom rowsFor andThen
-  unfit a p t = go (fieldsOf code) (sym p ∙ t)
+  pub unfit : (v : Fitting) → fittingSays v ≡ lastOf code count s → v ≡ Unfit → refuse 6 ≡ Out code count from end s
+  unfolding performativeBy rowsFrom rowsFor andThen lastOf
+  unfit v p t = go (fieldsOf code) (sym p ∙ ap fittingSays t)
     where
-      go : (o : Option (List Field)) → accepts (fieldsBy (rowsIn o) count s) ≡ false → refuse 6 ≡ andThen (andThen (rowsFor o) (λ rows. andThen (fieldsBy rows count s) (λ fs. accept (record { code = code; fields = fs; from = from; end = end })))) (λ p. accept (said p))
+      go : (o : Option (List Field)) → andThen (fieldsBy (rowsIn o) count s) (λ _. accept (skip (count - 1) s)) ≡ refuse 6 → refuse 6 ≡ andThen (andThen (rowsFor o) (λ rows. andThen (fieldsBy rows count s) (λ fs. accept (record { code = code; fields = fs; from = from; end = end })))) (λ p. accept (said p))
       go none e = refl
-      go (some rows) e = rw (rejected (fieldsBy rows count s) e (fields-six rows count s))
+      go (some rows) e = rw (refused (fieldsBy rows count s) (skip (count - 1) s) e)
 
   pub other : (code ≡ 16 → ⊥) → (code ≡ 17 → ⊥) → (code ≡ 18 → ⊥) → (code ≡ 19 → ⊥) → (code ≡ 20 → ⊥) → (code ≡ 21 → ⊥) → (code ≡ 22 → ⊥) → (code ≡ 23 → ⊥) → (code ≡ 24 → ⊥) → refuse 6 ≡ Out code count from end s
   unfolding performativeBy rowsFor andThen fieldsOf fieldsIn
@@ -62,9 +60,10 @@ module _ (s : List ℕ) (code count from end : ℕ) where
       rw (ne-eqb code 16 a, ne-eqb code 17 b, ne-eqb code 18 c, ne-eqb code 19 d, ne-eqb code 20 e, ne-eqb code 21 f, ne-eqb code 22 g, ne-eqb code 23 h, ne-eqb code 24 i)
 
   -- the fields as the definition splits them off
-  module _ (a : Bool) (p : a ≡ accepts (fieldsBy (rowsFrom code 0) count s)) (t : a ≡ true) where
-    fielded : (fs : List (List ℕ)) × (fieldsBy (rowsFrom code 0) count s ≡ accept fs)
-    fielded = taken (fieldsBy (rowsFrom code 0) count s) (sym p ∙ t)
+  module _ (v : Fitting) (p : fittingSays v ≡ lastOf code count s) (last : ℕ) (t : v ≡ Fit last) where
+    fielded : (fs : List (List ℕ)) × (fieldsBy (rowsFrom code 0) count s ≡ accept fs) × (accept (skip (count - 1) s) ≡ accept last)
+    unfolding lastOf
+    fielded = then-was (fieldsBy (rowsFrom code 0) count s) _ last (sym p ∙ ap fittingSays t)
 
     splits : (split 16 count s ≡ accept (fielded .0)) × (fit (rowsFrom code 0) (fielded .0) ≡ true)
     splits = fields-were (rowsFrom code 0) count s (fielded .0) (fielded .1)
@@ -89,8 +88,14 @@ module _ (s : List ℕ) (code count from end : ℕ) where
     unfolding fieldAt fieldOf fieldIn fieldsOf fieldsIn
     begin-given e = ushort-short false 0 s (typed 0 (may UShort) (rw e))
 
-    pub error-given : (k i : ℕ) → code ≡ k → fieldAt k i ≡ some (may Error) → from + length s < 2 ^ 64 → (fits Error false (valueAt i s) ≡ true) × (from + length s < 2 ^ 64)
-    error-given k i e f h = (typed i (may Error) (rw e f), h)
+    few : count ≤ length (rowsFrom code 0)
+    unfolding accepts
+    few = at-few (rowsFrom code 0) count s (ap accepts (fielded .1))
+
+    pub error-given : (k i : ℕ) → code ≡ k → fieldAt k i ≡ some (may Error) → length (rowsFrom k 0) ≡ i + 1 → from + length s < 2 ^ 64 → (fits Error false (valueAt i s) ≡ true) × (from + length s < 2 ^ 64) × (last ≡ skip (count - 1) s) × (skip count s ≡ length s) × (count ≤ i + 1)
+    error-given k i e f l h =
+        let n : length (rowsFrom code 0) ≡ i + 1 = rw e l in
+        (typed i (may Error) (rw e f), h, sym (accepted _ last (fielded .2)), found-all count s (fielded .0) (splits .0), omega (arith, few))
 
     -- a performative with the descriptor k says what the fields say
     pub arm : (k : ℕ) (vs : List ℕ) → code ≡ k → rowsFor (fieldsOf k) ≡ accept (rowsFrom k 0) → ((fs : List (List ℕ)) → split 16 count s ≡ accept fs → vs ≡ valuesOf (record { code = k; fields = fs; from = from; end = end })) → accept (record { code = k; end = end; values = vs }) ≡ Out code count from end s

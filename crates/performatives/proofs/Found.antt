@@ -7,7 +7,7 @@ use Prim.Native.Nat.{ℕ, zero, suc, _+_, _-_, _≤_}
 use native.Mathlib.Numerals.{add-one}
 use native.Mathlib.Omega.{arith}
 use lib.ListN.{length, take, drop, length-drop}
-use lib.Seq.{drop-drop, length-take-le}
+use lib.Seq.{drop-drop, drop-length, take-nil, length-take-le}
 use Rattle.octets.specs.Verdict.{Verdict, refuse, accept}
 use Rattle.octets.specs.Octets.{startsWith}
 use Rattle.values.specs.Value.{valueEnd}
@@ -62,6 +62,18 @@ skip-next s i at end p q = q ∙ rw (p, add-one)
 pub skip-done : (s : List ℕ) (i k at : ℕ) → at ≡ skip k s → k ≤ i → i ≤ k → at ≡ skip i s
 skip-done s i k at p l h = let e : k ≡ i = omega arith in p ∙ rw e
 
+-- the value before the next begins where this one did
+pub skip-same : (s : List ℕ) (i at : ℕ) → at ≡ skip i s → at ≡ skip ((i + 1) - 1) s
+skip-same s i at p = let e : (i + 1) - 1 ≡ i = omega arith in p ∙ rw e
+
+-- a later value begins no earlier
+skip-later : (i j k : ℕ) (s : List ℕ) → k ≡ i + j → skip i s ≤ skip k s
+unfolding skip
+skip-later i zero k s e = let q : k ≡ i = omega arith in rw q (omega arith)
+skip-later i (suc j) k s e =
+    let q : k ≡ suc (i + j) = omega arith in
+    rw q (omega (arith, skip-later i j (i + j) s refl, next-after s (skip (i + j) s)))
+
 -- by the values that stand after the first
 next-front : (s : List ℕ) (n at : ℕ) → next s (n + at) ≡ n + next (drop n s) at
 unfolding next
@@ -95,6 +107,13 @@ module _ (i : ℕ) (s : List ℕ) (at : ℕ) (p : at ≡ skip i s) where
     pub item-is : take (end - at) (drop at s) ≡ item i s
     unfolding item
     item-is = rw (q, p)
+
+-- there is none after the last
+pub item-past : (i k : ℕ) (s : List ℕ) → skip k s ≡ length s → k ≤ i → [] ≡ item i s
+unfolding item
+item-past i k s e h =
+    let a : skip i s ≡ length s = omega (arith, skip-within i s, skip-later k (i - k) i s (omega arith)) in
+    rw (a, drop-length s, take-nil)
 
 pub item-front : (i : ℕ) (s : List ℕ) (n : ℕ) → valueEnd 16 s ≡ accept n → item (suc i) s ≡ item i (drop n s)
 unfolding item

@@ -23,7 +23,7 @@ use Rattle.performatives.specs.Inner.{afterOr, next, skip, item, orNull,
 use Rattle.performatives.proofs.Lists.{part-is}
 use Rattle.performatives.proofs.Bounds.{described-lies}
 use Rattle.performatives.proofs.Conditions.{error-text}
-use Rattle.performatives.proofs.Found.{skip-within}
+use Rattle.performatives.proofs.Found.{skip-within, skip-next, item-is, item-past, null-missing}
 use Rattle.performatives.proofs.Numbers.{there, some-there}
 
 -- ---- text
@@ -96,31 +96,54 @@ module _ (i : ℕ) (s : List ℕ) where
           let l = length-take-le n (drop (skip i s) s) (value-within 16 _ n e) in
           rw (d, l) (ap (valueEnd 16) (sym (append-nil (take n (drop (skip i s) s)))) ∙ value-local 16 _ n e [])
 
-module _ (i : ℕ) (s f : List ℕ) (p : f ≡ item i s) (b : Bool) (q : b ≡ isNull (orNull f)) (from : ℕ) where
-  at-field : valueAt i s ≡ orNull f
+-- field i is the last that there may be, and `count` values fill s, of which the last begins at `last`
+module _ (i count last from : ℕ) (s : List ℕ) (g : (fits Error false (valueAt i s) ≡ true) × (from + length s < 2 ^ 64) × (last ≡ skip (count - 1) s) × (skip count s ≡ length s) × (count ≤ i + 1)) where
+  abbrev f : List ℕ
+  f = take (length s - last) (drop last s)
+
+  abbrev Says : List ℕ → Type 0
+  Says r = r ≡ whenNot (isNull (valueAt i s)) (conditionAt (from + skip i s) (valueAt i s) (described (valueAt i s)))
+
+  null-field : (h : List ℕ) → h ≡ item i s → true ≡ isNull (orNull h) → Says []
   unfolding valueAt
-  at-field = rw p
+  null-field h p q = rw (← p, ← q)
 
-  pub no-error : b ≡ true → [] ≡ whenNot (isNull (valueAt i s)) (conditionAt (from + skip i s) (valueAt i s) (described (valueAt i s)))
-  no-error t = rw (at-field, ← q, t)
+  pub error-missing : count ≤ i → Says []
+  error-missing h = null-field [] (item-past i count s (g .3) h) (null-missing [] refl)
 
-  module _ (at : ℕ) (e : at ≡ skip i s) where
-    pub error-fits : from + length s < 2 ^ 64 → Fits w64 (from + at)
-    error-fits h = omega (arith, skip-within i s)
+  module _ (h : i < count) where
+    last-at : last ≡ skip i s
+    last-at = let e : count - 1 ≡ i = omega (arith, g .4) in g .2 ∙ rw e
 
-    module _ (t : b ≡ false) where
-      same : orNull f ≡ f
-      same = there f (sym q ∙ t)
+    pub last-within : last ≤ length s
+    last-within = omega (arith, last-at, skip-within i s)
 
-      pub error-given : (fits Error false (valueAt i s) ≡ true) × (from + length s < 2 ^ 64) → (isError f ≡ true) × (valueEnd 16 f ≡ accept (length f)) × ((from + at) + length f < 2 ^ 64)
-      unfolding fits hasType
-      error-given g =
-          let n : isNull f ≡ false = ap isNull (sym same) ∙ sym q ∙ t in
-          let w : valueEnd 16 f ≡ accept (length f) = subst (λ (x : List ℕ). 1 ≤ length x → valueEnd 16 x ≡ accept (length x)) (sym p) (item-whole i s) (some-there f (sym q ∙ t)) in
-          let l : length f ≡ length (item i s) = ap length p in
-          (rw (at-field, same, n) at (g .0), w, omega (arith, g .1, item-lies i s))
+    is-item : f ≡ item i s
+    is-item =
+        let e : count ≡ i + 1 = omega (arith, g .4) in
+        let n : skip count s ≡ next s last = rw e (sym (skip-next s i last (next s last) last-at refl)) in
+        item-is i s last last-at (length s) (sym (g .3) ∙ n)
 
-      pub error-there : (r : List ℕ) → r ≡ conditionAt (from + at) f (described f) → r ≡ whenNot (isNull (valueAt i s)) (conditionAt (from + skip i s) (valueAt i s) (described (valueAt i s)))
-      error-there r c =
-          let n : isNull f ≡ false = ap isNull (sym same) ∙ sym q ∙ t in
-          rw (at-field, same, n, ← e) c
+    module _ (b : Bool) (q : b ≡ isNull (orNull f)) where
+      pub no-error : b ≡ true → Says []
+      no-error t = null-field f is-item (sym t ∙ q)
+
+      pub error-fits : Fits w64 (from + last)
+      error-fits = omega (arith, g .1, last-within)
+
+      module _ (t : b ≡ false) where
+        same : valueAt i s ≡ f
+        unfolding valueAt
+        same = rw (← is-item) (there f (sym q ∙ t))
+
+        some : isNull f ≡ false
+        some = ap isNull (sym (there f (sym q ∙ t))) ∙ sym q ∙ t
+
+        pub error-given : (isError f ≡ true) × (valueEnd 16 f ≡ accept (length f)) × ((from + last) + length f < 2 ^ 64)
+        unfolding fits hasType
+        error-given =
+            let w : valueEnd 16 f ≡ accept (length f) = subst (λ (x : List ℕ). 1 ≤ length x → valueEnd 16 x ≡ accept (length x)) (sym is-item) (item-whole i s) (some-there f (sym q ∙ t)) in
+            (rw (same, some) at (g .0), w, omega (arith, g .1, ap length is-item, item-lies i s, last-at))
+
+        pub error-there : (r : List ℕ) → r ≡ conditionAt (from + last) f (described f) → Says r
+        error-there r c = rw (same, some, ← last-at) c

@@ -1,7 +1,7 @@
 -- Fields by their rows: what each step of `suits` and `fields` shows, for all rows together.
 -- Assumes nothing.
 use mathlib.Core.Path.{_≡_, refl, sym, ap, _∙_}
-use mathlib.Core.Bool.{Bool, true, false, cond, not, _&&_, and-false, and-true}
+use mathlib.Core.Bool.{Bool, true, false, cond, not, _&&_, and-false}
 use mathlib.Core.List.{List, [], _∷_}
 use mathlib.Core.Option.{Option, none, some}
 use Prim.Native.Nat.{ℕ, zero, suc, _+_, _-_, _*_, _/_, _%_, _^_, _<_, _≤_}
@@ -9,9 +9,9 @@ use native.Mathlib.Nat.{sub-zero}
 use native.Mathlib.Numerals.{add-one}
 use native.Mathlib.Omega.{arith}
 use lib.Dec.{eqb, leb}
-use lib.Seq.{drop-nil, drop-drop}
+use lib.Seq.{drop-nil, drop-drop, drop-length}
 use lib.ListN.{length, take, drop, length-drop}
-use borrow.Author.Tests.{eq-eqb, ne-eqb, le-leb, lt-leb}
+use borrow.Author.Tests.{ne-eqb, le-leb, lt-leb, leb-true, leb-false}
 use Rattle.octets.specs.Verdict.{Verdict, refuse, accept, require, andThen, accepts}
 use Rattle.values.specs.Value.{valueEnd}
 use Rattle.values.specs.Null.{isNull}
@@ -24,8 +24,9 @@ use Rattle.performatives.specs.declared.Row.the-variants.{Field as IsFie
 use Rattle.performatives.specs.Fields.{Field, fieldsOf, fieldIn, fieldOf, fieldAt}
 use Rattle.performatives.specs.Performative.{hasType, fits, fit, split, fieldsBy}
 use Rattle.performatives.specs.Answers.{typeSays, rowSays}
-use Rattle.performatives.specs.Inner.{rowsIn, rowsFrom, rowIn, rowNamed, RowsIn, suits}
+use Rattle.performatives.specs.Inner.{rowsIn, rowsFrom, rowIn, rowNamed, RowsIn, suits, skip, lastOf}
 use Rattle.performatives.proofs.Table.{row-past}
+use Rattle.performatives.proofs.Bounds.{fields-six}
 
 -- ---- the rows from field i on
 
@@ -109,6 +110,15 @@ at-many (r ∷ rows) (suc c) s h = go (valueEnd 16 s) refl (λ n. at-many rows c
     go : (v : Verdict ℕ) → valueEnd 16 s ≡ v → ((n : ℕ) → false ≡ accepts (fieldsBy rows c (drop n s))) → false ≡ accepts (fieldsBy (r ∷ rows) (suc c) s)
     go (refuse k) e more = at-malformed (r ∷ rows) c s k e
     go (accept n) e more = sym (step r rows c s n e ∙ rw (← more n) (and-false (fits (r .type) (r .mandatory) (take n s))))
+
+pub at-few : (rows : List Field) (c : ℕ) (s : List ℕ) → accepts (fieldsBy rows c s) ≡ true → c ≤ length rows
+at-few rows c s e = go (leb c (length rows)) refl
+  where
+    go : (b : Bool) → leb c (length rows) ≡ b → c ≤ length rows
+    go true h = leb-true _ _ h
+    go false h =
+        let q : false ≡ true = at-many rows c s (leb-false _ _ h) ∙ e in
+        let z : _≡_ {A = ℕ} 0 1 = cc in absurd (omega arith)
 
 -- ---- the steps of `suits`
 
@@ -202,9 +212,32 @@ module _ (code count i at : ℕ) (s : List ℕ) (inv : Left code count s i at) w
     pub fields-least : count < word / 2 ^ 56 → false ≡ accepts (fieldsBy (rowsFrom code 0) count s)
     fields-least h = sym (last ∙ rw (lt-leb (word / 2 ^ 56) count h) (and-false (eqb (length (drop at s)) 0)))
 
-    pub fields-all : word / 2 ^ 56 ≤ count → at ≤ length s → eqb at (length s) ≡ accepts (fieldsBy (rowsFrom code 0) count s)
-    fields-all h a = sym (last ∙ rw (le-leb (word / 2 ^ 56) count h) (and-true (eqb (length (drop at s)) 0) ∙ ends (length (drop at s)) (length-drop at s)))
-      where
-        ends : (n : ℕ) → n ≡ length s - at → eqb n 0 ≡ eqb at (length s)
-        ends zero e = let q : at ≡ length s = omega arith in sym (eq-eqb at (length s) q)
-        ends (suc n) e = ne-eqb (suc n) 0 (λ q. omega arith) ∙ sym (ne-eqb at (length s) (λ q. omega arith))
+    pub fields-over : at ≤ length s → (at ≡ length s → ⊥) → false ≡ accepts (fieldsBy (rowsFrom code 0) count s)
+    fields-over a z = sym (last ∙ rw (ne-eqb (length (drop at s)) 0 (λ q. z (omega (arith, length-drop at s)))))
+
+    pub fields-all : word / 2 ^ 56 ≤ count → at ≡ length s → true ≡ accepts (fieldsBy (rowsFrom code 0) count s)
+    fields-all h e = sym (last ∙ rw (le-leb (word / 2 ^ 56) count h, e, drop-length s))
+
+-- ---- what `fields` says
+
+rejected : {A : Type 0} (v : Verdict A) → false ≡ accepts v → ((k : ℕ) → v ≡ refuse k → k ≡ 6) → v ≡ refuse 6
+unfolding accepts
+rejected (refuse k) e h = ap refuse (h k refl)
+rejected (accept a) e h = let z : _≡_ {A = ℕ} 0 1 = cc in absurd (omega arith)
+
+found : {A : Type 0} (v : Verdict A) (n : ℕ) → true ≡ accepts v → accept n ≡ andThen v (λ _. accept n)
+unfolding accepts andThen
+found (refuse k) n e = let z : _≡_ {A = ℕ} 0 1 = cc in absurd (omega arith)
+found (accept a) n e = refl
+
+module _ (code count : ℕ) (s : List ℕ) where
+  pub last-none : false ≡ accepts (fieldsBy (rowsFrom code 0) count s) → refuse 6 ≡ lastOf code count s
+  unfolding lastOf andThen
+  last-none e = rw (rejected (fieldsBy (rowsFrom code 0) count s) e (fields-six (rowsFrom code 0) count s))
+
+  pub last-is : (i last : ℕ) → true ≡ accepts (fieldsBy (rowsFrom code 0) count s) → last ≡ skip (i - 1) s → count ≤ i → i ≤ count → accept last ≡ lastOf code count s
+  unfolding lastOf
+  last-is i last e p h l =
+      let q : i ≡ count = omega arith in
+      let k : last ≡ skip (count - 1) s = p ∙ rw q in
+      ap accept k ∙ found (fieldsBy (rowsFrom code 0) count s) (skip (count - 1) s) e

@@ -7,7 +7,7 @@ use mathlib.Core.List.{List, [], _∷_}
 use mathlib.Core.Option.{Option, none, some}
 use lib.ListN.{length, take, drop, getD}
 use lib.Dec.{leb, eqb}
-use Rattle.octets.specs.Verdict.{Verdict, refuse, accept}
+use Rattle.octets.specs.Verdict.{Verdict, refuse, accept, andThen}
 use Rattle.octets.specs.Octets.{startsWith}
 use Rattle.values.specs.Value.{valueEnd}
 use Rattle.values.specs.Null.{null}
@@ -15,8 +15,10 @@ use Rattle.performatives.specs.declared.composite.Items as I
 use Rattle.performatives.specs.declared.composite.Items.the-variants.{List as IsList, Malformed as NoList}
 use Rattle.performatives.specs.declared.composite.Descriptor.{Descriptor}
 use Rattle.performatives.specs.declared.composite.Descriptor.the-variants.{Ulong, Malformed as NoUlong}
+use Rattle.performatives.specs.declared.fields.Fitting.{Fitting}
+use Rattle.performatives.specs.declared.fields.Fitting.the-variants.{Fit, Unfit}
 use Rattle.performatives.specs.Fields.{Field, Any, UShort, UInt, String, Error, may, must, defaults, fieldsOf, fieldAt}
-use Rattle.performatives.specs.Performative.{Items, fits, fit, numberOr}
+use Rattle.performatives.specs.Performative.{Items, fits, fit, fieldsBy, numberOr}
 
 -- ---- a described list
 
@@ -90,6 +92,14 @@ orNull (b ∷ s) = b ∷ s
 -- field i; one that is missing is null
 unfoldable pub valueAt : ℕ → List ℕ → List ℕ
 valueAt i s = orNull (item i s)
+
+abbrev pub fittingSays : Fitting → Verdict ℕ
+fittingSays (Fit last) = accept last
+fittingSays Unfit = refuse 6
+
+-- where the last field of a performative begins, if the values of a list may stand in its fields
+unfoldable pub lastOf : ℕ → ℕ → List ℕ → Verdict ℕ
+lastOf code count s = andThen (fieldsBy (rowsFrom code 0) count s) (λ _. accept (skip (count - 1) s))
 
 -- ---- what the fields say
 

@@ -4,11 +4,9 @@ use crate::Described;
 use crate::composite::any_described;
 use crate::composite::starts_with;
 use crate::values_of::is_null;
-use crate::values_of::item;
-use crate::values_of::skip;
 ghost use mathlib.Core.Path.{_≡_};
 ghost use mathlib.Core.Bool.{true, false};
-ghost use Prim.Native.Nat.{_+_, _^_, _≤_, _<_};
+ghost use Prim.Native.Nat.{_+_, _-_, _^_, _≤_, _<_};
 ghost use lib.ListN.{length};
 ghost use Rattle.octets.specs.Verdict.{accept};
 ghost use Rattle.values.specs.Value.{valueEnd};
@@ -77,14 +75,18 @@ fn error_condition(f: &[u8], at: usize) -> Condition
     text(&f[from..end], at + from)
 }
 
-// The condition of the error in field `i`. The fields begin at place `from`.
-pub(crate) fn condition_in(s: &[u8], i: usize, from: usize) -> Condition
-    requires { ⌜ (fits Error false (valueAt i (now s)) ≡ true) × (from + length (now s) < 2 ^ 64) ⌝ }
+// The condition of the error in field `i`, which is the last that a performative may have: so it begins at `last`, where `count` says that it is there. The
+// fields begin at place `from`.
+pub(crate) fn condition_in(s: &[u8], i: u32, count: u32, last: usize, from: usize) -> Condition
+    requires { ⌜ (fits Error false (valueAt i (now s)) ≡ true) × (from + length (now s) < 2 ^ 64) × (last ≡ skip (count - 1) (now s)) × (skip count (now s) ≡ length (now s)) × (count ≤ i + 1) ⌝ }
     ensures { λ r. ⌜ conditionSays r ≡ whenNot (isNull (valueAt i (now (s .entry)))) (conditionAt (from + skip i (now (s .entry))) (valueAt i (now (s .entry))) (described (valueAt i (now (s .entry))))) ⌝ }
 {
-    let f = item(s, i);
+    if count <= i {
+        return Condition::Absent;
+    }
+    let f = &s[last..];
     if is_null(f) {
         return Condition::Absent;
     }
-    error_condition(f, from + skip(s, i))
+    error_condition(f, from + last)
 }

@@ -7,11 +7,10 @@ use crate::error::is_error;
 use values::DEPTH;
 ghost use mathlib.Core.Path.{_≡_};
 ghost use mathlib.Core.Option.{some};
-ghost use Rattle.octets.specs.Verdict.{accepts};
 ghost use Rattle.performatives.specs.Fields.{may, must, defaults};
-ghost use Rattle.performatives.specs.Performative.{fits, fieldsBy};
+ghost use Rattle.performatives.specs.Performative.{fits};
 ghost use Rattle.performatives.specs.Answers.{typeSays, rowSays};
-ghost use Rattle.performatives.specs.Inner.{rowsFrom, rowNamed, RowsIn, suits};
+ghost use Rattle.performatives.specs.Inner.{rowNamed, RowsIn, suits, fittingSays, lastOf};
 
 // The letters of the words below: what a field is. One that is mandatory begins with MUST, and in one that ends with MAX null stands for the greatest number.
 // 0 is past the last field.
@@ -131,32 +130,44 @@ fn suits(f: &[u8], letter: u64) -> bool
     fits(f, kind, mandatory)
 }
 
-// Whether the `count` values that have to fill `s` may stand in the fields of a performative. Of a value in a field of any type only its end is looked for.
-pub(crate) fn fields(s: &[u8], code: u64, count: u32) -> bool
-    ensures { λ r. ⌜ r ≡ accepts (fieldsBy (rowsFrom code 0) count (now (s .entry))) ⌝ }
+// Where the last of the values begins that may stand in the fields of a performative (0 where there is none).
+pub(crate) enum Fitting {
+    Fit { last: usize },
+    Unfit,
+}
+
+// Whether the `count` values that have to fill `s` may stand in the fields of a performative, and where the last of them begins. Of a value in a field of any
+// type only its end is looked for.
+pub(crate) fn fields(s: &[u8], code: u64, count: u32) -> Fitting
+    ensures { λ r. ⌜ fittingSays r ≡ lastOf code count (now (s .entry)) ⌝ }
 {
     if 14 < count {
-        return false;
+        return Fitting::Unfit;
     }
     let word = rows_of(code);
     let mut at: usize = 0;
+    let mut last: usize = 0;
     let mut i: u32 = 0;
     while i < count {
         let end = values::end_at(s, at, DEPTH);
         if end == 0 {
-            return false;
+            return Fitting::Unfit;
         }
         let letter = (word >> (4 * i)) % 16;
         if letter != ANY {
             if !suits(&s[at..end], letter) {
-                return false;
+                return Fitting::Unfit;
             }
         }
+        last = at;
         at = end;
         i += 1;
     }
     if (count as u64) < word >> 56 {
-        return false;
+        return Fitting::Unfit;
     }
-    at == s.len()
+    if at != s.len() {
+        return Fitting::Unfit;
+    }
+    Fitting::Fit { last }
 }

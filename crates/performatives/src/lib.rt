@@ -7,6 +7,7 @@ mod values_of;
 use composite::any_described;
 use composite::is_short;
 use error::condition_in;
+use fields::Fitting;
 use fields::fields;
 use fields::row_named;
 use fields::rows_of;
@@ -165,9 +166,9 @@ fn performative_in(s: &[u8], code: u64, count: u32, from: usize, end: usize) -> 
     requires { ⌜ from + length (now s) < 2 ^ 64 ⌝ }
     ensures { λ r. ⌜ bodySays r ≡ andThen (performativeBy (record { code = code; count = count; from = from; end = end }) (now (s .entry))) (λ p. accept (said p)) ⌝ }
 {
-    if !fields(s, code, count) {
+    let Fitting::Fit { last } = fields(s, code, count) else {
         return Body::Malformed;
-    }
+    };
     let performative = match code {
         16 => open(s),
         17 => Performative::Begin(remote_channel(s)),
@@ -175,9 +176,9 @@ fn performative_in(s: &[u8], code: u64, count: u32, from: usize, end: usize) -> 
         19 => Performative::Flow,
         20 => Performative::Transfer,
         21 => Performative::Disposition,
-        22 => Performative::Detach(condition_in(s, 2, from)),
-        23 => Performative::End(condition_in(s, 0, from)),
-        24 => Performative::Close(condition_in(s, 0, from)),
+        22 => Performative::Detach(condition_in(s, 2, count, last, from)),
+        23 => Performative::End(condition_in(s, 0, count, last, from)),
+        24 => Performative::Close(condition_in(s, 0, count, last, from)),
         _ => return Body::Malformed,
     };
     Body::Is { performative, end }

@@ -1,19 +1,18 @@
--- Known and plain codes: the kind of each, and that a plain value ends at the same place on every level.
+-- Known codes, plain codes, and C0 and C1: the kind of each.
 -- Assumes nothing.
 use mathlib.Core.Path.{_≡_, refl, sym, ap, _∙_}
 use mathlib.Core.Bool.{true, false}
-use mathlib.Core.List.{List, _∷_}
 use mathlib.Core.Option.{none, some}
-use Prim.Native.Nat.{ℕ, suc, _<_, _≤_}
+use Prim.Native.Nat.{ℕ, zero, suc, _/_, _%_, _<_, _≤_}
 use native.Mathlib.Omega.{arith}
 use borrow.Author.Tests.{eqb-true, lt-ltb, le-ltb}
 use Rattle.octets.specs.Verdict.{Verdict, refuse, accept, accepts}
-use Rattle.values.specs.Value.{Kind, fixed, boolean, variable, compound, kindOf, body, valueEnd}
+use Rattle.values.specs.Value.{Kind, fixed, boolean, variable, compound, codes, kindIn, kindOf}
 use Rattle.values.specs.Widths.{fixedWidth, widthAt, widthIn}
 use Rattle.values.specs.Plain.{isKnown, plainKind, isPlain}
+use Rattle.values.specs.Answers.{shapeOf}
 use Rattle.values.proofs.Widths.{width-right}
 use Rattle.values.proofs.Bounds.{holds-refuse, kind-holds}
-use Rattle.values.proofs.Laws.{value-of-code}
 
 apart : (n : ℕ) → some n ≡ none → ⊥
 apart n e = let z : _≡_ {A = ℕ} 0 1 = cc in omega arith
@@ -71,13 +70,13 @@ module _ (c : ℕ) (p : isPlain c ≡ true) where
       go (accept (compound shape w)) e t = let z : _≡_ {A = ℕ} 0 1 = cc in absurd (omega arith)
       go (refuse k) e t = let z : _≡_ {A = ℕ} 0 1 = cc in absurd (omega arith)
 
-  pub plain-level : (d : ℕ) (s : List ℕ) → valueEnd (suc d) (c ∷ s) ≡ valueEnd 1 (c ∷ s)
-  unfolding isPlain body
-  plain-level d s = go (kindOf c) refl p
-    where
-      go : (v : Verdict Kind) → kindOf c ≡ v → plainKind v ≡ true → valueEnd (suc d) (c ∷ s) ≡ valueEnd 1 (c ∷ s)
-      go (accept (fixed w)) e t = value-of-code d c (fixed w) s e ∙ sym (value-of-code 0 c (fixed w) s e)
-      go (accept boolean) e t = let z : _≡_ {A = ℕ} 0 1 = cc in absurd (omega arith)
-      go (accept (variable w)) e t = value-of-code d c (variable w) s e ∙ sym (value-of-code 0 c (variable w) s e)
-      go (accept (compound shape w)) e t = let z : _≡_ {A = ℕ} 0 1 = cc in absurd (omega arith)
-      go (refuse k) e t = let z : _≡_ {A = ℕ} 0 1 = cc in absurd (omega arith)
+-- ---- C0 and C1
+
+pub small-kind : (c : ℕ) → c / 2 ≡ 96 → kindOf c ≡ accept (compound (shapeOf (c % 2)) 1)
+unfolding kindOf kindIn codes
+small-kind c e = go (c % 2) refl
+  where
+    go : (n : ℕ) → c % 2 ≡ n → kindOf c ≡ accept (compound (shapeOf n) 1)
+    go zero q = let k : c ≡ 0xc0 = omega arith in rw k
+    go (suc zero) q = let k : c ≡ 0xc1 = omega arith in rw k
+    go (suc (suc n)) q = absurd (omega arith)

@@ -4,7 +4,7 @@
 use mathlib.Core.Path.{_≡_, refl, sym, ap, _∙_}
 use mathlib.Core.Bool.{Bool, true, false, cond}
 use mathlib.Core.List.{List, _∷_}
-use Prim.Native.Nat.{ℕ, zero, suc, _+_, _*_, _-_, _%_, _^_, _<_, _≤_}
+use Prim.Native.Nat.{ℕ, zero, suc, _+_, _*_, _-_, _/_, _%_, _^_, _<_, _≤_}
 use native.Mathlib.Nat.{mul-le-mul-left, le-of-lt, zero-add, add-zero, sub-zero}
 use native.Mathlib.Numerals.{sub-one}
 use native.Mathlib.Omega.{arith}
@@ -14,12 +14,12 @@ use lib.Dec.{leb, eqb}
 use lib.ListN.{length, take, drop, getD, length-take, length-drop}
 use lib.Seq.{length-take-le, take-all, drop-cons, drop-drop, getD-drop}
 use borrow.Author.Tests.{eqb-true, eqb-false, lt-leb, eq-eqb, ne-eqb}
-use Rattle.octets.specs.Verdict.{refuse, accept, andThen}
+use Rattle.octets.specs.Verdict.{Verdict, refuse, accept, andThen}
 use Rattle.octets.specs.Octets.{bigEndian, bigEndianFrom}
 use Rattle.octets.proofs.Laws.{require-off}
 use Rattle.values.specs.Value.{Reader, Kind, fixed, boolean, variable, compound, codes, kindIn, kindOf, followedBy, times, bytes, numberIn, booleanEnd, variableEnd, pairedIn, items, compoundEnd, body, afterCode, level, run, valueEnd}
 use Rattle.values.specs.Widths.{fixedWidth}
-use Rattle.values.specs.Plain.{isKnown, isPlain}
+use Rattle.values.specs.Plain.{isKnown, plainKind, isPlain}
 use Rattle.values.specs.declared.Value.{Value}
 use Rattle.values.specs.declared.format_code.Kind as K
 use Rattle.values.specs.declared.format_code.Kind.the-variants.{Fixed, Boolean, Variable, List as Lists, Map, Array}
@@ -32,7 +32,7 @@ use Rattle.values.proofs.Turns.{place-plus, left, turn-first}
 use Rattle.values.proofs.Apart.{number-is}
 use Rattle.values.proofs.Laws.{code-not-zero, value-of-code}
 use Rattle.values.proofs.Places.{place-of, place-none, drop-past, run-off, run-on, run-in, place-off, place-on, place-in}
-use Rattle.values.proofs.Plain.{known-kind, unknown-kind, plain-fixed, plain-variable, plain-level}
+use Rattle.values.proofs.Plain.{known-kind, unknown-kind, plain-fixed, plain-variable, small-kind}
 
 -- ---- sizes and counts
 
@@ -135,6 +135,8 @@ module _ (s : List ℕ) (at : ℕ) (h : at < length s) where
   known zero k z e = absurd (z refl)
   known (suc d) k z e = rw (opens, value-of-code d code k (drop (at + 1) s) e, place-plus, sub-one (suc d))
 
+  -- ---- plain_end
+
   module _ (p : isPlain code ≡ true) (r : ℕ) where
     pub plain-short : (w : ℕ) → code < 160 → w ≡ fixedWidth code → r ≡ placeAfter (at + 1) (bytes w (drop (at + 1) s)) → r ≡ placeAfter at (valueEnd 1 (drop at s))
     unfolding body
@@ -143,10 +145,6 @@ module _ (s : List ℕ) (at : ℕ) (h : at < length s) where
     pub plain-sized : (wide : Bool) → 160 ≤ code → wide ≡ false → r ≡ placeAfter (at + 1) (variableEnd (widthOf wide) (drop (at + 1) s)) → r ≡ placeAfter at (valueEnd 1 (drop at s))
     unfolding body
     plain-sized wide l e q = q ∙ rw e (sym (known 1 (variable 1) (λ z. omega arith) (plain-variable code p l)))
-
-    pub plain-deep : (d : ℕ) → (d ≡ 0 → ⊥) → r ≡ placeAfter at (valueEnd 1 (drop at s)) → r ≡ placeAfter at (valueEnd d (drop at s))
-    plain-deep zero z q = absurd (z refl)
-    plain-deep (suc d) z q = q ∙ rw opens (ap (placeAfter at) (sym (plain-level code p d (drop (at + 1) s))))
 
   -- and a run of it so many bodies
   runs : (d count : ℕ) (k : Kind) → (d ≡ 0 → ⊥) → kindOf code ≡ accept k → placeAfter at (run d count (drop at s)) ≡ placeAfter (at + 1) (times count (body (run (d - 1)) k) (drop (at + 1) s))
@@ -159,48 +157,82 @@ module _ (s : List ℕ) (at : ℕ) (h : at < length s) where
   describes zero count z e = absurd (z refl)
   describes (suc d) count z e = rw (opens, eq-eqb code 0 e, place-plus, sub-one (suc d))
 
+  -- ---- plains_end
+
+  module _ (p : isPlain code ≡ true) (count r : ℕ) where
+    one : _≡_ {A = ℕ} 1 0 → ⊥
+    one e = omega arith
+
+    pub plains-short : (w : ℕ) → code < 160 → w ≡ fixedWidth code → r ≡ placeAfter (at + 1) (bytes (count * w) (drop (at + 1) s)) → r ≡ placeAfter at (run 1 count (drop at s))
+    unfolding body
+    plains-short w l e q = q ∙ rw e (ap (placeAfter (at + 1)) (sym (times-bytes (fixedWidth code) count (drop (at + 1) s))) ∙ sym (runs 1 count (fixed (fixedWidth code)) one (plain-fixed code p l)))
+
+    pub plains-sized : (wide : Bool) → 160 ≤ code → wide ≡ false → r ≡ placeAfter (at + 1) (times count (variableEnd (widthOf wide)) (drop (at + 1) s)) → r ≡ placeAfter at (run 1 count (drop at s))
+    unfolding body
+    plains-sized wide l e q = q ∙ rw e (sym (runs 1 count (variable 1) one (plain-variable code p l)))
+
+    -- on every level alike
+    pub plains-deep : (d : ℕ) → (d ≡ 0 → ⊥) → r ≡ placeAfter at (run 1 count (drop at s)) → r ≡ placeAfter at (run d count (drop at s))
+    unfolding body isPlain
+    plains-deep d z q = q ∙ go (kindOf code) refl p
+      where
+        go : (v : Verdict Kind) → kindOf code ≡ v → plainKind v ≡ true → placeAfter at (run 1 count (drop at s)) ≡ placeAfter at (run d count (drop at s))
+        go (accept (fixed w)) e t = runs 1 count (fixed w) one e ∙ sym (runs d count (fixed w) z e)
+        go (accept boolean) e t = let z : _≡_ {A = ℕ} 0 1 = cc in absurd (omega arith)
+        go (accept (variable w)) e t = runs 1 count (variable w) one e ∙ sym (runs d count (variable w) z e)
+        go (accept (compound shape w)) e t = let z : _≡_ {A = ℕ} 0 1 = cc in absurd (omega arith)
+        go (refuse k) e t = let z : _≡_ {A = ℕ} 0 1 = cc in absurd (omega arith)
+
+  pub plain-deep : isPlain code ≡ true → (r d : ℕ) → (d ≡ 0 → ⊥) → r ≡ placeAfter at (valueEnd 1 (drop at s)) → r ≡ placeAfter at (valueEnd d (drop at s))
+  unfolding valueEnd
+  plain-deep p r d z q = plains-deep p 1 r d z q
+
   -- ---- other_end
 
-  module _ (d r : ℕ) (z : 0 < d) where
-    deep : d ≡ 0 → ⊥
-    deep e = omega arith
+  deep : (d : ℕ) → 0 < d → d ≡ 0 → ⊥
+  deep d z e = omega arith
 
-    pub value-described : code ≡ 0 → r ≡ placeAfter (at + 1) (followedBy (run (d - 1) 1) (run (d - 1) 1) (drop (at + 1) s)) → r ≡ placeAfter at (valueEnd d (drop at s))
-    unfolding valueEnd
-    value-described e q = q ∙ sym (describes d 1 deep e)
+  -- the codes of compounds with sizes of one byte
+  small : (shape : ℕ) (wide : Bool) → wide ≡ false → code / 2 ≡ 96 → shape ≡ code % 2 → kindOf code ≡ accept (compound (shapeOf shape) (widthOf wide))
+  small shape wide f e n = small-kind code e ∙ rw (n, f)
 
-    pub value-boolean : code ≡ 0x56 → r ≡ placeAfter (at + 1) (booleanEnd (drop (at + 1) s)) → r ≡ placeAfter at (valueEnd d (drop at s))
-    unfolding body kindOf kindIn codes
-    value-boolean e q = q ∙ sym (known d boolean deep (ap kindOf e))
+  small-array : (shape : ℕ) (wide : Bool) → wide ≡ false → code ≡ 0xe0 → shape ≡ 2 → kindOf code ≡ accept (compound (shapeOf shape) (widthOf wide))
+  unfolding kindOf kindIn codes
+  small-array shape wide f e n = rw (e, n, f)
 
-    module _ (shape : ℕ) (wide : Bool) (q : r ≡ placeAfter (at + 1) (compoundEnd (run (d - 1)) (shapeOf shape) (widthOf wide) (drop (at + 1) s))) where
-      compounded : kindOf code ≡ accept (compound (shapeOf shape) (widthOf wide)) → r ≡ placeAfter at (valueEnd d (drop at s))
-      unfolding body
-      compounded k = q ∙ sym (known d (compound (shapeOf shape) (widthOf wide)) deep k)
+  module _ (c : ℕ) (i : c ≡ code) where
+    pub not-described : (c ≡ 0 → ⊥) → code ≡ 0 → ⊥
+    not-described n e = n (i ∙ e)
 
-      module _ (f : wide ≡ false) where
-        pub value-list : code ≡ 0xc0 → shape ≡ 0 → r ≡ placeAfter at (valueEnd d (drop at s))
-        unfolding kindOf kindIn codes
-        value-list e n = compounded (rw (e, n, f))
+    module _ (d r : ℕ) (z : 0 < d) where
+      pub value-described : c ≡ 0 → r ≡ placeAfter (at + 1) (followedBy (run (d - 1) 1) (run (d - 1) 1) (drop (at + 1) s)) → r ≡ placeAfter at (valueEnd d (drop at s))
+      unfolding valueEnd
+      value-described e q = q ∙ sym (describes d 1 (deep d z) (sym i ∙ e))
 
-        pub value-map : code ≡ 0xc1 → shape ≡ 1 → r ≡ placeAfter at (valueEnd d (drop at s))
-        unfolding kindOf kindIn codes
-        value-map e n = compounded (rw (e, n, f))
+      pub value-boolean : c ≡ 0x56 → r ≡ placeAfter (at + 1) (booleanEnd (drop (at + 1) s)) → r ≡ placeAfter at (valueEnd d (drop at s))
+      unfolding body kindOf kindIn codes
+      value-boolean e q = q ∙ sym (known d boolean (deep d z) (ap kindOf (sym i ∙ e)))
 
-        pub value-array : code ≡ 0xe0 → shape ≡ 2 → r ≡ placeAfter at (valueEnd d (drop at s))
-        unfolding kindOf kindIn codes
-        value-array e n = compounded (rw (e, n, f))
+      module _ (shape : ℕ) (wide : Bool) (f : wide ≡ false) (q : r ≡ placeAfter (at + 1) (compoundEnd (run (d - 1)) (shapeOf shape) (widthOf wide) (drop (at + 1) s))) where
+        pub value-small : c / 2 ≡ 96 → shape ≡ c % 2 → r ≡ placeAfter at (valueEnd d (drop at s))
+        unfolding body
+        value-small e n = q ∙ sym (known d (compound (shapeOf shape) (widthOf wide)) (deep d z) (small shape wide f (rw (← i) e) (rw (← i) n)))
+
+        pub value-array : c ≡ 0xe0 → shape ≡ 2 → r ≡ placeAfter at (valueEnd d (drop at s))
+        unfolding body
+        value-array e n = q ∙ sym (known d (compound (shapeOf shape) (widthOf wide)) (deep d z) (small-array shape wide f (sym i ∙ e) n))
 
   -- ---- code_end
 
   module _ (d count r : ℕ) (z : 0 < d) where
-    pub run-fixed : (w : ℕ) → isPlain code ≡ true → code < 160 → w ≡ fixedWidth code → r ≡ placeAfter (at + 1) (bytes (count * w) (drop (at + 1) s)) → r ≡ placeAfter at (run d count (drop at s))
-    unfolding body
-    run-fixed w p l e q = q ∙ rw e (ap (placeAfter (at + 1)) (sym (times-bytes (fixedWidth code) count (drop (at + 1) s))) ∙ sym (runs d count (fixed (fixedWidth code)) (deep d r z) (plain-fixed code p l)))
+    module _ (shape : ℕ) (wide : Bool) (f : wide ≡ false) (q : r ≡ placeAfter (at + 1) (times count (compoundEnd (run (d - 1)) (shapeOf shape) (widthOf wide)) (drop (at + 1) s))) where
+      pub run-small : code / 2 ≡ 96 → shape ≡ code % 2 → r ≡ placeAfter at (run d count (drop at s))
+      unfolding body
+      run-small e n = q ∙ sym (runs d count (compound (shapeOf shape) (widthOf wide)) (deep d z) (small shape wide f e n))
 
-    pub run-sized : (wide : Bool) → isPlain code ≡ true → 160 ≤ code → wide ≡ false → r ≡ placeAfter (at + 1) (times count (variableEnd (widthOf wide)) (drop (at + 1) s)) → r ≡ placeAfter at (run d count (drop at s))
-    unfolding body
-    run-sized wide p l e q = q ∙ rw e (sym (runs d count (variable 1) (deep d r z) (plain-variable code p l)))
+      pub run-array : code ≡ 0xe0 → shape ≡ 2 → r ≡ placeAfter at (run d count (drop at s))
+      unfolding body
+      run-array e n = q ∙ sym (runs d count (compound (shapeOf shape) (widthOf wide)) (deep d z) (small-array shape wide f e n))
 
     module _ (k : Code) (o : codeSaid k ≡ kindOf code) where
       pub code-unknown : (code ≡ 0 → ⊥) → k ≡ Unknown → 0 ≡ placeAfter at (run d count (drop at s))
@@ -211,7 +243,7 @@ module _ (s : List ℕ) (at : ℕ) (h : at < length s) where
         is = sym o ∙ ap codeSaid u
 
         bodies : r ≡ placeAfter (at + 1) (times count (body (run (d - 1)) (kindSaid kind)) (drop (at + 1) s)) → r ≡ placeAfter at (run d count (drop at s))
-        bodies q = q ∙ sym (runs d count (kindSaid kind) (deep d r z) is)
+        bodies q = q ∙ sym (runs d count (kindSaid kind) (deep d z) is)
 
         pub bodies-fixed : (c w : ℕ) → kind ≡ Fixed c → w ≡ fixedWidth c → r ≡ placeAfter (at + 1) (bytes (count * w) (drop (at + 1) s)) → r ≡ placeAfter at (run d count (drop at s))
         unfolding body
@@ -282,6 +314,10 @@ pub product-fits : (a b : ℕ) → a < 2 ^ 32 → Fits w32 b → Fits w64 (a * b
 product-fits a b h k = let m : a * b ≤ a * 2 ^ 32 = mul-le-mul-left a (le-of-lt (k .fits)) in omega arith
 
 -- ---- described_end
+
+pub described-shallow : (s : List ℕ) (at d : ℕ) (g : Reader) → d ≡ 0 → 0 ≡ placeAfter at (followedBy (run d 1) g (drop at s))
+unfolding followedBy andThen
+described-shallow s at d g z = rw (z, ← run-bodies 1 (drop at s) (λ e. omega arith))
 
 module _ (s : List ℕ) (at d next : ℕ) (p : next ≡ placeAfter at (valueEnd d (drop at s))) where
   pub described-off : (g : Reader) → next ≡ 0 → 0 ≡ placeAfter at (followedBy (run d 1) g (drop at s))

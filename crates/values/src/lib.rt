@@ -47,6 +47,9 @@ const MAP: u8 = 1;
 
 const ARRAY: u8 = 2;
 
+// The half of C0 and of C1, a list and a map with sizes of one byte: the rest is the shape.
+const SMALL: u8 = 0x60;
+
 // ---- sizes and counts
 
 // How many bytes a size or a count has.
@@ -154,6 +157,18 @@ fn plain_end(s: &[u8], at: usize) -> usize
     variable_end(s, at + 1, false)
 }
 
+// As many bodies of a plain code as `count` says.
+fn plains_end(s: &[u8], at: usize, count: usize) -> usize
+    requires { ⌜ (at < length (now s)) × (isPlain (getD (now s) at 0) ≡ true) × (count < 2 ^ 32) ⌝ }
+    ensures { λ r. ⌜ r ≡ placeAfter at (run 1 count (drop at (now (s .entry)))) ⌝ }
+{
+    let c = s[at];
+    if c < 0xa0 {
+        return bytes_end(s, at + 1, count * (fixed_width(c) as usize));
+    }
+    variables_end(s, at + 1, count, false)
+}
+
 // The place after the value at a place, which stands at the first of `depth` levels; 0 where it is malformed, or where there are no bytes. Most values are plain.
 pub fn end_at(s: &[u8], at: usize, depth: u8) -> usize
     ensures { λ r. ⌜ r ≡ placeAfter at (valueEnd depth (drop at (now (s .entry)))) ⌝ }
@@ -167,22 +182,27 @@ pub fn end_at(s: &[u8], at: usize, depth: u8) -> usize
     if is_plain(s[at]) {
         return plain_end(s, at);
     }
-    other_end(s, at, depth)
+    other_end(s, at, depth, s[at])
 }
 
-// The same of a value that is not plain. What is often met is told by its code; all else by the table of codes.
-fn other_end(s: &[u8], at: usize, depth: u8) -> usize
-    requires { ⌜ (at < length (now s)) × (0 < depth) ⌝ }
+// The same of a value of the code `c`, which is not plain. What is often met is told by its code; all else by the table of codes.
+fn other_end(s: &[u8], at: usize, depth: u8, c: u8) -> usize
+    requires { ⌜ (at < length (now s)) × (0 < depth) × (c ≡ getD (now s) at 0) ⌝ }
     ensures { λ r. ⌜ r ≡ placeAfter at (valueEnd depth (drop at (now (s .entry)))) ⌝ }
 {
-    match s[at] {
-        0 => described_end(s, at + 1, depth - 1, 1),
-        0x56 => boolean_end(s, at + 1),
-        0xc0 => compound_end(s, at + 1, depth - 1, LIST, false),
-        0xc1 => compound_end(s, at + 1, depth - 1, MAP, false),
-        0xe0 => compound_end(s, at + 1, depth - 1, ARRAY, false),
-        _ => code_end(s, at, depth, 1),
+    if c == 0 {
+        return described_end(s, at + 1, depth - 1, 1);
     }
+    if c == 0x56 {
+        return boolean_end(s, at + 1);
+    }
+    if c / 2 == SMALL {
+        return compound_end(s, at + 1, depth - 1, c % 2, false);
+    }
+    if c == 0xe0 {
+        return compound_end(s, at + 1, depth - 1, ARRAY, false);
+    }
+    code_end(s, at, depth, 1)
 }
 
 // After 00: a value that describes, and a constructor with as many bodies as `count` says.
@@ -190,6 +210,9 @@ fn described_end(s: &[u8], at: usize, depth: u8, count: usize) -> usize
     requires { ⌜ (at ≤ length (now s)) × (count < 2 ^ 32) ⌝ }
     ensures { λ r. ⌜ r ≡ placeAfter at (followedBy (run depth 1) (run depth count) (drop at (now (s .entry)))) ⌝ }
 {
+    if depth == 0 {
+        return 0;
+    }
     let next = end_at(s, at, depth);
     if next == 0 {
         return 0;
@@ -225,6 +248,9 @@ fn run_end(s: &[u8], at: usize, depth: u8, count: usize) -> usize
     if depth == 0 {
         return 0;
     }
+    if is_plain(c) {
+        return plains_end(s, at, count);
+    }
     code_end(s, at, depth, count)
 }
 
@@ -235,11 +261,11 @@ fn code_end(s: &[u8], at: usize, depth: u8, count: usize) -> usize
 {
     let from = at + 1;
     let c = s[at];
-    if is_plain(c) {
-        if c < 0xa0 {
-            return bytes_end(s, from, count * (fixed_width(c) as usize));
-        }
-        return variables_end(s, from, count, false);
+    if c / 2 == SMALL {
+        return compounds_end(s, from, depth - 1, count, c % 2, false);
+    }
+    if c == 0xe0 {
+        return compounds_end(s, from, depth - 1, count, ARRAY, false);
     }
     let Code::Known(kind) = code_of(c) else {
         return 0;
@@ -363,5 +389,5 @@ pub fn value_end(s: &[u8], depth: u8) -> Value
     if is_plain(s[0]) {
         return value_to(plain_end(s, 0));
     }
-    value_to(other_end(s, 0, depth))
+    value_to(other_end(s, 0, depth, s[0]))
 }

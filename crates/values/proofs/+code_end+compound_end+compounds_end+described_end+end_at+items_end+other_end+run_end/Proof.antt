@@ -12,7 +12,7 @@ use Rattle.values.specs.Value.{times, items, compoundEnd, run}
 use Rattle.values.specs.Answers.{placeAfter, widthOf, shapeOf}
 use Rattle.values.proofs.Turns.{left, turn-first, turn-stop, turn-more, turn-last}
 use Rattle.values.proofs.Places.{place-past}
-use Rattle.values.proofs.Steps.{plain-yes, plain-deep, value-described, value-boolean, value-list, value-map, value-array, run-fixed, run-sized, code-unknown, bodies-fixed, bodies-boolean, bodies-variable, bodies-list, bodies-map, bodies-array, product-fits, run-one, one-value, value-shallow, run-past, run-shallow, run-describes, none-known, none-unknown, run-deep, described-off, described-on, next-in, items-array, items-each, as-run}
+use Rattle.values.proofs.Steps.{plain-yes, plain-deep, plains-deep, not-described, value-described, value-boolean, value-small, value-array, run-small, run-array, code-unknown, bodies-fixed, bodies-boolean, bodies-variable, bodies-list, bodies-map, bodies-array, product-fits, run-one, one-value, value-shallow, run-past, run-shallow, run-describes, none-known, none-unknown, run-deep, described-shallow, described-off, described-on, next-in, items-array, items-each, as-run}
 use Rattle.values.proofs.Compounds.{part-count, compound-off, count-in, count-fits, from-fits, from-some, from-in, compound-odd, compound-filled, compound-else}
 use Rattle.values.proofs.code_end.Reads as code-end
 use Rattle.values.proofs.code_end.Kinds as code-end-kinds
@@ -39,6 +39,7 @@ use Rattle.values.proofs.run_end.Reads as run-end
 use Rattle.values.proofs.run_end.Kinds as run-end-kinds
 use Rattle.values.proofs.+code_end+compound_end+compounds_end+described_end+end_at+items_end+other_end+run_end.Lts-run_end as run-end-lts
 use Rattle.values.proofs.format_code.is_plain.Reads as is-plain-reads
+use Rattle.values.proofs.plains_end.Reads as plains-end-reads
 use Rattle.values.proofs.format_code.fixed_width.Reads as fixed-width-reads
 use Rattle.values.proofs.bytes_end.Reads as bytes-end-reads
 use Rattle.values.proofs.variables_end.Reads as variables-end-reads
@@ -54,21 +55,21 @@ use Rattle.values.proofs.format_code.is_known.Reads as is-known-reads
 use Rattle.values.proofs.+code_end+compound_end+compounds_end+described_end+end_at+items_end+other_end+run_end.{statement}
 use Rattle.values.proofs.+code_end+compound_end+compounds_end+described_end+end_at+items_end+other_end+run_end.Tie.{close}
 
-ruleset code-end-steps = (plain-yes, run-fixed, run-sized, code-unknown, bodies-fixed, bodies-boolean, bodies-variable, bodies-list, bodies-map, bodies-array, product-fits, needs)
+ruleset code-end-steps = (run-small, run-array, code-unknown, bodies-fixed, bodies-boolean, bodies-variable, bodies-list, bodies-map, bodies-array, product-fits, needs)
 
 ruleset compound-end-steps = (not-true, not-false, part-count, compound-off, count-in, count-fits, from-fits, from-some, from-in, compound-odd, compound-filled, compound-else, needs)
 
 ruleset compounds-end-steps = (turn-first, turn-stop, turn-more, turn-last, needs)
 
-ruleset described-end-steps = (described-off, described-on, next-in, needs)
+ruleset described-end-steps = (described-shallow, described-off, described-on, next-in, needs)
 
 ruleset end-at-steps = (place-past, value-shallow, plain-yes, plain-deep, needs)
 
 ruleset items-end-steps = (items-array, items-each, as-run, turn-stop, turn-more, turn-last, next-in, needs)
 
-ruleset other-end-steps = (value-described, value-boolean, value-list, value-map, value-array, one-value, needs)
+ruleset other-end-steps = (not-described, value-described, value-boolean, value-small, value-array, one-value, needs)
 
-ruleset run-end-steps = (run-one, run-past, run-shallow, run-describes, none-known, none-unknown, run-deep, needs)
+ruleset run-end-steps = (plain-yes, plains-deep, run-one, run-past, run-shallow, run-describes, none-known, none-unknown, run-deep, needs)
 
 abbrev μ-code-end : Measures 1 code-end-kinds.ps ℕ
 μ-code-end κs a = 7 * a .1 .1 .0
@@ -145,7 +146,7 @@ run-end-below t = and 1 run-end-kinds.ps (falls 1 run-end-kinds.ps _<_ μ-run-en
 -- ---- code_end
 
 abbrev code-end-calls : ℕ → code-end-lts.Claims
-code-end-calls t = (is-plain-reads.Asked, is-plain-reads.Learnt, fixed-width-reads.Asked, fixed-width-reads.Learnt, bytes-end-reads.Asked, bytes-end-reads.Learnt, variables-end-reads.Asked, variables-end-reads.Learnt, code-of-reads.Asked, code-of-reads.Learnt, booleans-end-reads.Asked, booleans-end-reads.Learnt, compounds-end-below t, compounds-end.Post)
+code-end-calls t = (compounds-end-below t, compounds-end.Post, code-of-reads.Asked, code-of-reads.Learnt, fixed-width-reads.Asked, fixed-width-reads.Learnt, bytes-end-reads.Asked, bytes-end-reads.Learnt, booleans-end-reads.Asked, booleans-end-reads.Learnt, variables-end-reads.Asked, variables-end-reads.Learnt)
 
 code-end-add-from : (t : ℕ) → code-end-lts.Need-add-from (code-end-calls t) (code-end-at t) code-end.Post
 code-end-add-from t c = search code-end-steps
@@ -153,26 +154,20 @@ code-end-add-from t c = search code-end-steps
 code-end-shared-slice-read-c : (t : ℕ) → code-end-lts.Need-shared-slice-read-c (code-end-calls t) (code-end-at t) code-end.Post
 code-end-shared-slice-read-c t c = search code-end-steps
 
-code-end-is-plain-requires : (t : ℕ) → code-end-lts.Need-is-plain-requires (code-end-calls t) (code-end-at t) code-end.Post
-code-end-is-plain-requires t c κs = search code-end-steps
+code-end-sub-compounds-end : (t : ℕ) → code-end-lts.Need-sub-compounds-end (code-end-calls t) (code-end-at t) code-end.Post
+code-end-sub-compounds-end t c = search code-end-steps
 
-code-end-fixed-width-requires : (t : ℕ) → code-end-lts.Need-fixed-width-requires (code-end-calls t) (code-end-at t) code-end.Post
-code-end-fixed-width-requires t c κs = search code-end-steps
-
-code-end-cast-bytes-end : (t : ℕ) → code-end-lts.Need-cast-bytes-end (code-end-calls t) (code-end-at t) code-end.Post
-code-end-cast-bytes-end t c = search code-end-steps
-
-code-end-mul-bytes-end : (t : ℕ) → code-end-lts.Need-mul-bytes-end (code-end-calls t) (code-end-at t) code-end.Post
-code-end-mul-bytes-end t c = search code-end-steps
-
-code-end-bytes-end-requires : (t : ℕ) → code-end-lts.Need-bytes-end-requires (code-end-calls t) (code-end-at t) code-end.Post
-code-end-bytes-end-requires t c κs = search code-end-steps
+code-end-compounds-end-requires : (t : ℕ) → code-end-lts.Need-compounds-end-requires (code-end-calls t) (code-end-at t) code-end.Post
+code-end-compounds-end-requires t c κs = search code-end-steps
 
 code-end-returns : (t : ℕ) → code-end-lts.Need-returns (code-end-calls t) (code-end-at t) code-end.Post
 code-end-returns t c = search code-end-steps
 
-code-end-variables-end-requires : (t : ℕ) → code-end-lts.Need-variables-end-requires (code-end-calls t) (code-end-at t) code-end.Post
-code-end-variables-end-requires t c κs = search code-end-steps
+code-end-sub-compounds-end-2 : (t : ℕ) → code-end-lts.Need-sub-compounds-end-2 (code-end-calls t) (code-end-at t) code-end.Post
+code-end-sub-compounds-end-2 t c = search code-end-steps
+
+code-end-compounds-end-requires-2 : (t : ℕ) → code-end-lts.Need-compounds-end-requires-2 (code-end-calls t) (code-end-at t) code-end.Post
+code-end-compounds-end-requires-2 t c κs = search code-end-steps
 
 code-end-returns-2 : (t : ℕ) → code-end-lts.Need-returns-2 (code-end-calls t) (code-end-at t) code-end.Post
 code-end-returns-2 t c = search code-end-steps
@@ -192,17 +187,17 @@ code-end-returns-3 t c = search code-end-steps
 code-end-enum-known-kind-2 : (t : ℕ) → code-end-lts.Need-enum-known-kind-2 (code-end-calls t) (code-end-at t) code-end.Post
 code-end-enum-known-kind-2 t c = search code-end-steps
 
-code-end-fixed-width-requires-2 : (t : ℕ) → code-end-lts.Need-fixed-width-requires-2 (code-end-calls t) (code-end-at t) code-end.Post
-code-end-fixed-width-requires-2 t c κs = search code-end-steps
+code-end-fixed-width-requires : (t : ℕ) → code-end-lts.Need-fixed-width-requires (code-end-calls t) (code-end-at t) code-end.Post
+code-end-fixed-width-requires t c κs = search code-end-steps
 
-code-end-cast-bytes-end-2 : (t : ℕ) → code-end-lts.Need-cast-bytes-end-2 (code-end-calls t) (code-end-at t) code-end.Post
-code-end-cast-bytes-end-2 t c = search code-end-steps
+code-end-cast-bytes-end : (t : ℕ) → code-end-lts.Need-cast-bytes-end (code-end-calls t) (code-end-at t) code-end.Post
+code-end-cast-bytes-end t c = search code-end-steps
 
-code-end-mul-bytes-end-2 : (t : ℕ) → code-end-lts.Need-mul-bytes-end-2 (code-end-calls t) (code-end-at t) code-end.Post
-code-end-mul-bytes-end-2 t c = search code-end-steps
+code-end-mul-bytes-end : (t : ℕ) → code-end-lts.Need-mul-bytes-end (code-end-calls t) (code-end-at t) code-end.Post
+code-end-mul-bytes-end t c = search code-end-steps
 
-code-end-bytes-end-requires-2 : (t : ℕ) → code-end-lts.Need-bytes-end-requires-2 (code-end-calls t) (code-end-at t) code-end.Post
-code-end-bytes-end-requires-2 t c κs = search code-end-steps
+code-end-bytes-end-requires : (t : ℕ) → code-end-lts.Need-bytes-end-requires (code-end-calls t) (code-end-at t) code-end.Post
+code-end-bytes-end-requires t c κs = search code-end-steps
 
 code-end-enum-told-2 : (t : ℕ) → code-end-lts.Need-enum-told-2 (code-end-calls t) (code-end-at t) code-end.Post
 code-end-enum-told-2 t c = search code-end-steps
@@ -213,35 +208,35 @@ code-end-booleans-end-requires t c κs = search code-end-steps
 code-end-enum-known-kind-3 : (t : ℕ) → code-end-lts.Need-enum-known-kind-3 (code-end-calls t) (code-end-at t) code-end.Post
 code-end-enum-known-kind-3 t c = search code-end-steps
 
-code-end-variables-end-requires-2 : (t : ℕ) → code-end-lts.Need-variables-end-requires-2 (code-end-calls t) (code-end-at t) code-end.Post
-code-end-variables-end-requires-2 t c κs = search code-end-steps
+code-end-variables-end-requires : (t : ℕ) → code-end-lts.Need-variables-end-requires (code-end-calls t) (code-end-at t) code-end.Post
+code-end-variables-end-requires t c κs = search code-end-steps
 
 code-end-enum-known-kind-4 : (t : ℕ) → code-end-lts.Need-enum-known-kind-4 (code-end-calls t) (code-end-at t) code-end.Post
 code-end-enum-known-kind-4 t c = search code-end-steps
-
-code-end-sub-compounds-end : (t : ℕ) → code-end-lts.Need-sub-compounds-end (code-end-calls t) (code-end-at t) code-end.Post
-code-end-sub-compounds-end t c = search code-end-steps
-
-code-end-compounds-end-requires : (t : ℕ) → code-end-lts.Need-compounds-end-requires (code-end-calls t) (code-end-at t) code-end.Post
-code-end-compounds-end-requires t c κs = search code-end-steps
-
-code-end-enum-known-kind-5 : (t : ℕ) → code-end-lts.Need-enum-known-kind-5 (code-end-calls t) (code-end-at t) code-end.Post
-code-end-enum-known-kind-5 t c = search code-end-steps
-
-code-end-sub-compounds-end-2 : (t : ℕ) → code-end-lts.Need-sub-compounds-end-2 (code-end-calls t) (code-end-at t) code-end.Post
-code-end-sub-compounds-end-2 t c = search code-end-steps
-
-code-end-compounds-end-requires-2 : (t : ℕ) → code-end-lts.Need-compounds-end-requires-2 (code-end-calls t) (code-end-at t) code-end.Post
-code-end-compounds-end-requires-2 t c κs = search code-end-steps
-
-code-end-enum-known-kind-6 : (t : ℕ) → code-end-lts.Need-enum-known-kind-6 (code-end-calls t) (code-end-at t) code-end.Post
-code-end-enum-known-kind-6 t c = search code-end-steps
 
 code-end-sub-compounds-end-3 : (t : ℕ) → code-end-lts.Need-sub-compounds-end-3 (code-end-calls t) (code-end-at t) code-end.Post
 code-end-sub-compounds-end-3 t c = search code-end-steps
 
 code-end-compounds-end-requires-3 : (t : ℕ) → code-end-lts.Need-compounds-end-requires-3 (code-end-calls t) (code-end-at t) code-end.Post
 code-end-compounds-end-requires-3 t c κs = search code-end-steps
+
+code-end-enum-known-kind-5 : (t : ℕ) → code-end-lts.Need-enum-known-kind-5 (code-end-calls t) (code-end-at t) code-end.Post
+code-end-enum-known-kind-5 t c = search code-end-steps
+
+code-end-sub-compounds-end-4 : (t : ℕ) → code-end-lts.Need-sub-compounds-end-4 (code-end-calls t) (code-end-at t) code-end.Post
+code-end-sub-compounds-end-4 t c = search code-end-steps
+
+code-end-compounds-end-requires-4 : (t : ℕ) → code-end-lts.Need-compounds-end-requires-4 (code-end-calls t) (code-end-at t) code-end.Post
+code-end-compounds-end-requires-4 t c κs = search code-end-steps
+
+code-end-enum-known-kind-6 : (t : ℕ) → code-end-lts.Need-enum-known-kind-6 (code-end-calls t) (code-end-at t) code-end.Post
+code-end-enum-known-kind-6 t c = search code-end-steps
+
+code-end-sub-compounds-end-5 : (t : ℕ) → code-end-lts.Need-sub-compounds-end-5 (code-end-calls t) (code-end-at t) code-end.Post
+code-end-sub-compounds-end-5 t c = search code-end-steps
+
+code-end-compounds-end-requires-5 : (t : ℕ) → code-end-lts.Need-compounds-end-requires-5 (code-end-calls t) (code-end-at t) code-end.Post
+code-end-compounds-end-requires-5 t c κs = search code-end-steps
 
 code-end-returns-4 : (t : ℕ) → code-end-lts.Need-returns-4 (code-end-calls t) (code-end-at t) code-end.Post
 code-end-returns-4 t c = search code-end-steps
@@ -342,17 +337,20 @@ compounds-end-returns-2 t c = search compounds-end-steps
 abbrev described-end-calls : ℕ → described-end-lts.Claims
 described-end-calls t = (end-at-below t, end-at.Post, run-end-below t, run-end.Post)
 
+described-end-returns : (t : ℕ) → described-end-lts.Need-returns (described-end-calls t) (described-end-at t) described-end.Post
+described-end-returns t c = search described-end-steps
+
 described-end-end-at-requires : (t : ℕ) → described-end-lts.Need-end-at-requires (described-end-calls t) (described-end-at t) described-end.Post
 described-end-end-at-requires t c κs = search described-end-steps
 
-described-end-returns : (t : ℕ) → described-end-lts.Need-returns (described-end-calls t) (described-end-at t) described-end.Post
-described-end-returns t c = search described-end-steps
+described-end-returns-2 : (t : ℕ) → described-end-lts.Need-returns-2 (described-end-calls t) (described-end-at t) described-end.Post
+described-end-returns-2 t c = search described-end-steps
 
 described-end-run-end-requires : (t : ℕ) → described-end-lts.Need-run-end-requires (described-end-calls t) (described-end-at t) described-end.Post
 described-end-run-end-requires t c κs = search described-end-steps
 
-described-end-returns-2 : (t : ℕ) → described-end-lts.Need-returns-2 (described-end-calls t) (described-end-at t) described-end.Post
-described-end-returns-2 t c = search described-end-steps
+described-end-returns-3 : (t : ℕ) → described-end-lts.Need-returns-3 (described-end-calls t) (described-end-at t) described-end.Post
+described-end-returns-3 t c = search described-end-steps
 
 -- ---- end_at
 
@@ -376,6 +374,9 @@ end-at-plain-end-requires t c κs = search end-at-steps
 
 end-at-returns-3 : (t : ℕ) → end-at-lts.Need-returns-3 (end-at-calls t) (end-at-at t) end-at.Post
 end-at-returns-3 t c = search end-at-steps
+
+end-at-shared-slice-read-other-end : (t : ℕ) → end-at-lts.Need-shared-slice-read-other-end (end-at-calls t) (end-at-at t) end-at.Post
+end-at-shared-slice-read-other-end t c = search end-at-steps
 
 end-at-other-end-requires : (t : ℕ) → end-at-lts.Need-other-end-requires (end-at-calls t) (end-at-at t) end-at.Post
 end-at-other-end-requires t c κs = search end-at-steps
@@ -426,9 +427,6 @@ items-end-returns-3 t c = search items-end-steps
 abbrev other-end-calls : ℕ → other-end-lts.Claims
 other-end-calls t = (described-end-below t, described-end.Post, boolean-end-reads.Asked, boolean-end-reads.Learnt, compound-end-below t, compound-end.Post, code-end-below t, code-end.Post)
 
-other-end-shared-slice-read-match : (t : ℕ) → other-end-lts.Need-shared-slice-read-match (other-end-calls t) (other-end-at t) other-end.Post
-other-end-shared-slice-read-match t c = search other-end-steps
-
 other-end-add-described-end : (t : ℕ) → other-end-lts.Need-add-described-end (other-end-calls t) (other-end-at t) other-end.Post
 other-end-add-described-end t c = search other-end-steps
 
@@ -438,11 +436,17 @@ other-end-sub-described-end t c = search other-end-steps
 other-end-described-end-requires : (t : ℕ) → other-end-lts.Need-described-end-requires (other-end-calls t) (other-end-at t) other-end.Post
 other-end-described-end-requires t c κs = search other-end-steps
 
+other-end-returns : (t : ℕ) → other-end-lts.Need-returns (other-end-calls t) (other-end-at t) other-end.Post
+other-end-returns t c = search other-end-steps
+
 other-end-add-boolean-end : (t : ℕ) → other-end-lts.Need-add-boolean-end (other-end-calls t) (other-end-at t) other-end.Post
 other-end-add-boolean-end t c = search other-end-steps
 
 other-end-boolean-end-requires : (t : ℕ) → other-end-lts.Need-boolean-end-requires (other-end-calls t) (other-end-at t) other-end.Post
 other-end-boolean-end-requires t c κs = search other-end-steps
+
+other-end-returns-2 : (t : ℕ) → other-end-lts.Need-returns-2 (other-end-calls t) (other-end-at t) other-end.Post
+other-end-returns-2 t c = search other-end-steps
 
 other-end-add-compound-end : (t : ℕ) → other-end-lts.Need-add-compound-end (other-end-calls t) (other-end-at t) other-end.Post
 other-end-add-compound-end t c = search other-end-steps
@@ -453,6 +457,9 @@ other-end-sub-compound-end t c = search other-end-steps
 other-end-compound-end-requires : (t : ℕ) → other-end-lts.Need-compound-end-requires (other-end-calls t) (other-end-at t) other-end.Post
 other-end-compound-end-requires t c κs = search other-end-steps
 
+other-end-returns-3 : (t : ℕ) → other-end-lts.Need-returns-3 (other-end-calls t) (other-end-at t) other-end.Post
+other-end-returns-3 t c = search other-end-steps
+
 other-end-add-compound-end-2 : (t : ℕ) → other-end-lts.Need-add-compound-end-2 (other-end-calls t) (other-end-at t) other-end.Post
 other-end-add-compound-end-2 t c = search other-end-steps
 
@@ -462,40 +469,19 @@ other-end-sub-compound-end-2 t c = search other-end-steps
 other-end-compound-end-requires-2 : (t : ℕ) → other-end-lts.Need-compound-end-requires-2 (other-end-calls t) (other-end-at t) other-end.Post
 other-end-compound-end-requires-2 t c κs = search other-end-steps
 
-other-end-add-compound-end-3 : (t : ℕ) → other-end-lts.Need-add-compound-end-3 (other-end-calls t) (other-end-at t) other-end.Post
-other-end-add-compound-end-3 t c = search other-end-steps
-
-other-end-sub-compound-end-3 : (t : ℕ) → other-end-lts.Need-sub-compound-end-3 (other-end-calls t) (other-end-at t) other-end.Post
-other-end-sub-compound-end-3 t c = search other-end-steps
-
-other-end-compound-end-requires-3 : (t : ℕ) → other-end-lts.Need-compound-end-requires-3 (other-end-calls t) (other-end-at t) other-end.Post
-other-end-compound-end-requires-3 t c κs = search other-end-steps
+other-end-returns-4 : (t : ℕ) → other-end-lts.Need-returns-4 (other-end-calls t) (other-end-at t) other-end.Post
+other-end-returns-4 t c = search other-end-steps
 
 other-end-code-end-requires : (t : ℕ) → other-end-lts.Need-code-end-requires (other-end-calls t) (other-end-at t) other-end.Post
 other-end-code-end-requires t c κs = search other-end-steps
 
-other-end-returns : (t : ℕ) → other-end-lts.Need-returns (other-end-calls t) (other-end-at t) other-end.Post
-other-end-returns t c = search other-end-steps
-
-other-end-returns-2 : (t : ℕ) → other-end-lts.Need-returns-2 (other-end-calls t) (other-end-at t) other-end.Post
-other-end-returns-2 t c = search other-end-steps
-
-other-end-returns-3 : (t : ℕ) → other-end-lts.Need-returns-3 (other-end-calls t) (other-end-at t) other-end.Post
-other-end-returns-3 t c = search other-end-steps
-
-other-end-returns-4 : (t : ℕ) → other-end-lts.Need-returns-4 (other-end-calls t) (other-end-at t) other-end.Post
-other-end-returns-4 t c = search other-end-steps
-
 other-end-returns-5 : (t : ℕ) → other-end-lts.Need-returns-5 (other-end-calls t) (other-end-at t) other-end.Post
 other-end-returns-5 t c = search other-end-steps
-
-other-end-returns-6 : (t : ℕ) → other-end-lts.Need-returns-6 (other-end-calls t) (other-end-at t) other-end.Post
-other-end-returns-6 t c = search other-end-steps
 
 -- ---- run_end
 
 abbrev run-end-calls : ℕ → run-end-lts.Claims
-run-end-calls t = (end-at-below t, end-at.Post, described-end-below t, described-end.Post, is-known-reads.Asked, is-known-reads.Learnt, code-end-below t, code-end.Post)
+run-end-calls t = (end-at-below t, end-at.Post, described-end-below t, described-end.Post, is-known-reads.Asked, is-known-reads.Learnt, is-plain-reads.Asked, is-plain-reads.Learnt, plains-end-reads.Asked, plains-end-reads.Learnt, code-end-below t, code-end.Post)
 
 run-end-end-at-requires : (t : ℕ) → run-end-lts.Need-end-at-requires (run-end-calls t) (run-end-at t) run-end.Post
 run-end-end-at-requires t c κs = search run-end-steps
@@ -539,11 +525,20 @@ run-end-returns-6 t c = search run-end-steps
 run-end-returns-7 : (t : ℕ) → run-end-lts.Need-returns-7 (run-end-calls t) (run-end-at t) run-end.Post
 run-end-returns-7 t c = search run-end-steps
 
-run-end-code-end-requires : (t : ℕ) → run-end-lts.Need-code-end-requires (run-end-calls t) (run-end-at t) run-end.Post
-run-end-code-end-requires t c κs = search run-end-steps
+run-end-is-plain-requires : (t : ℕ) → run-end-lts.Need-is-plain-requires (run-end-calls t) (run-end-at t) run-end.Post
+run-end-is-plain-requires t c κs = search run-end-steps
+
+run-end-plains-end-requires : (t : ℕ) → run-end-lts.Need-plains-end-requires (run-end-calls t) (run-end-at t) run-end.Post
+run-end-plains-end-requires t c κs = (search needs, plain-yes _ _ (c .before .is-plain .ensures) (c .if8 .taken), search needs)
 
 run-end-returns-8 : (t : ℕ) → run-end-lts.Need-returns-8 (run-end-calls t) (run-end-at t) run-end.Post
 run-end-returns-8 t c = search run-end-steps
+
+run-end-code-end-requires : (t : ℕ) → run-end-lts.Need-code-end-requires (run-end-calls t) (run-end-at t) run-end.Post
+run-end-code-end-requires t c κs = search run-end-steps
+
+run-end-returns-9 : (t : ℕ) → run-end-lts.Need-returns-9 (run-end-calls t) (run-end-at t) run-end.Post
+run-end-returns-9 t c = search run-end-steps
 
 pub +code-end+compound-end+compounds-end+described-end+end-at+items-end+other-end+run-end-spec : {M : Type 1} → statement M
 +code-end+compound-end+compounds-end+described-end+end-at+items-end+other-end+run-end-spec =
@@ -561,36 +556,34 @@ pub +code-end+compound-end+compounds-end+described-end+end-at+items-end+other-en
     code-end.Post
     (code-end-add-from t)
     (code-end-shared-slice-read-c t)
-    (code-end-is-plain-requires t)
-    (code-end-fixed-width-requires t)
-    (code-end-cast-bytes-end t)
-    (code-end-mul-bytes-end t)
-    (code-end-bytes-end-requires t)
+    (code-end-sub-compounds-end t)
+    (code-end-compounds-end-requires t)
     (code-end-returns t)
-    (code-end-variables-end-requires t)
+    (code-end-sub-compounds-end-2 t)
+    (code-end-compounds-end-requires-2 t)
     (code-end-returns-2 t)
     (code-end-code-of-requires t)
     (code-end-enum-known-kind t)
     (code-end-enum-told t)
     (code-end-returns-3 t)
     (code-end-enum-known-kind-2 t)
-    (code-end-fixed-width-requires-2 t)
-    (code-end-cast-bytes-end-2 t)
-    (code-end-mul-bytes-end-2 t)
-    (code-end-bytes-end-requires-2 t)
+    (code-end-fixed-width-requires t)
+    (code-end-cast-bytes-end t)
+    (code-end-mul-bytes-end t)
+    (code-end-bytes-end-requires t)
     (code-end-enum-told-2 t)
     (code-end-booleans-end-requires t)
     (code-end-enum-known-kind-3 t)
-    (code-end-variables-end-requires-2 t)
+    (code-end-variables-end-requires t)
     (code-end-enum-known-kind-4 t)
-    (code-end-sub-compounds-end t)
-    (code-end-compounds-end-requires t)
-    (code-end-enum-known-kind-5 t)
-    (code-end-sub-compounds-end-2 t)
-    (code-end-compounds-end-requires-2 t)
-    (code-end-enum-known-kind-6 t)
     (code-end-sub-compounds-end-3 t)
     (code-end-compounds-end-requires-3 t)
+    (code-end-enum-known-kind-5 t)
+    (code-end-sub-compounds-end-4 t)
+    (code-end-compounds-end-requires-4 t)
+    (code-end-enum-known-kind-6 t)
+    (code-end-sub-compounds-end-5 t)
+    (code-end-compounds-end-requires-5 t)
     (code-end-returns-4 t)
     (code-end-returns-5 t)
     (code-end-returns-6 t)
@@ -628,10 +621,11 @@ pub +code-end+compound-end+compounds-end+described-end+end-at+items-end+other-en
     (λ t. described-end-lts.spec (described-end-calls t)
     (described-end-at t)
     described-end.Post
-    (described-end-end-at-requires t)
     (described-end-returns t)
+    (described-end-end-at-requires t)
+    (described-end-returns-2 t)
     (described-end-run-end-requires t)
-    (described-end-returns-2 t))
+    (described-end-returns-3 t))
     (λ t. end-at-lts.spec (end-at-calls t)
     (end-at-at t)
     end-at.Post
@@ -641,6 +635,7 @@ pub +code-end+compound-end+compounds-end+described-end+end-at+items-end+other-en
     (end-at-is-plain-requires t)
     (end-at-plain-end-requires t)
     (end-at-returns-3 t)
+    (end-at-shared-slice-read-other-end t)
     (end-at-other-end-requires t)
     (end-at-returns-4 t))
     (λ t. items-end-lts.spec (items-end-calls t)
@@ -660,28 +655,23 @@ pub +code-end+compound-end+compounds-end+described-end+end-at+items-end+other-en
     (λ t. other-end-lts.spec (other-end-calls t)
     (other-end-at t)
     other-end.Post
-    (other-end-shared-slice-read-match t)
     (other-end-add-described-end t)
     (other-end-sub-described-end t)
     (other-end-described-end-requires t)
+    (other-end-returns t)
     (other-end-add-boolean-end t)
     (other-end-boolean-end-requires t)
+    (other-end-returns-2 t)
     (other-end-add-compound-end t)
     (other-end-sub-compound-end t)
     (other-end-compound-end-requires t)
+    (other-end-returns-3 t)
     (other-end-add-compound-end-2 t)
     (other-end-sub-compound-end-2 t)
     (other-end-compound-end-requires-2 t)
-    (other-end-add-compound-end-3 t)
-    (other-end-sub-compound-end-3 t)
-    (other-end-compound-end-requires-3 t)
-    (other-end-code-end-requires t)
-    (other-end-returns t)
-    (other-end-returns-2 t)
-    (other-end-returns-3 t)
     (other-end-returns-4 t)
-    (other-end-returns-5 t)
-    (other-end-returns-6 t))
+    (other-end-code-end-requires t)
+    (other-end-returns-5 t))
     (λ t. run-end-lts.spec (run-end-calls t)
     (run-end-at t)
     run-end.Post
@@ -699,5 +689,8 @@ pub +code-end+compound-end+compounds-end+described-end+end-at+items-end+other-en
     (run-end-returns-5 t)
     (run-end-returns-6 t)
     (run-end-returns-7 t)
+    (run-end-is-plain-requires t)
+    (run-end-plains-end-requires t)
+    (run-end-returns-8 t)
     (run-end-code-end-requires t)
-    (run-end-returns-8 t))
+    (run-end-returns-9 t))

@@ -28,6 +28,9 @@ value-to-requires c κs = search steps
 returns-3 : tie.Need-returns-3
 returns-3 c = search steps
 
+shared-slice-read-other-end : tie.Need-shared-slice-read-other-end
+shared-slice-read-other-end c = search steps
+
 other-end-requires : tie.Need-other-end-requires
 other-end-requires c κs = search steps
 
@@ -48,6 +51,7 @@ value-end-spec =
     plain-end-requires
     value-to-requires
     returns-3
+    shared-slice-read-other-end
     other-end-requires
     value-to-requires-2
     returns-4)

@@ -1,23 +1,29 @@
--- `condition_in`: null, or an error, which is a whole value.
+-- `condition_in`: missing, null, or an error, which is a whole value that ends with the fields.
 -- Assumes nothing.
 use borrow.Author.Needs.{needs}
-use Rattle.performatives.proofs.Placed.{no-error, error-fits, error-given, error-there}
+use Rattle.performatives.proofs.Placed.{error-missing, last-within, no-error, error-fits, error-given, error-there}
 use Rattle.performatives.proofs.error.condition_in.Statement.{statement}
 use Rattle.performatives.proofs.error.condition_in.Tie as tie
 
-ruleset steps = (no-error, error-fits, error-there, needs)
+ruleset steps = (error-missing, last-within, no-error, error-fits, error-there, needs)
 
-item-requires : tie.Need-item-requires
-item-requires c κs = search steps
+returns : tie.Need-returns
+returns c = error-missing _ _ _ _ _ (c .before .before .pre) (c .if1 .taken)
+
+sub-f : tie.Need-sub-f
+sub-f c = last-within _ _ _ _ _ (c .before .before .pre) (c .if1 .left)
+
+part-f-start : tie.Need-part-f-start
+part-f-start c = last-within _ _ _ _ _ (c .before .before .pre) (c .if1 .left)
+
+part-f-end : tie.Need-part-f-end
+part-f-end c = search steps
 
 is-null-requires : tie.Need-is-null-requires
 is-null-requires c κs = search steps
 
-returns : tie.Need-returns
-returns c = search steps
-
-skip-requires : tie.Need-skip-requires
-skip-requires c κs = search steps
+returns-2 : tie.Need-returns-2
+returns-2 c = search steps
 
 add-error-condition : tie.Need-add-error-condition
 add-error-condition c = search steps
@@ -25,19 +31,21 @@ add-error-condition c = search steps
 error-condition-requires : tie.Need-error-condition-requires
 error-condition-requires c κs =
     let b = c .before .before in
-    error-given _ _ _ (b .before .item .ensures) _ (b .is-null .ensures) _ _ (c .skip .ensures) (c .before .if1 .left) (b .before .before .before .pre)
+    error-given _ _ _ _ _ (b .before .before .before .pre) (b .before .if1 .left) _ (c .before .is-null .ensures) (c .if2 .left)
 
-returns-2 : tie.Need-returns-2
-returns-2 c = search steps
+returns-3 : tie.Need-returns-3
+returns-3 c = search steps
 
 pub condition-in-spec : {M : Type 1} → statement M
 condition-in-spec =
     tie.close
     (tie.spec
-    item-requires
-    is-null-requires
     returns
-    skip-requires
+    sub-f
+    part-f-start
+    part-f-end
+    is-null-requires
+    returns-2
     add-error-condition
     error-condition-requires
-    returns-2)
+    returns-3)

@@ -1,22 +1,25 @@
--- `fields`: one turn for each field that is there. The loop's invariant is what is left to say (`Left`).
+-- `fields`: one turn for each field that is there. The loop's invariant is what is left to say (`Left`), and where the value there and the one before it begin.
 -- Assumes nothing.
 use Prim.Native.Nat.{_-_, _≤_}
 use native.Mathlib.Omega.{arith}
 use lib.ListN.{length}
 use mathlib.Core.Logic.{⊎-elim}
+use mathlib.Core.Path.{_≡_}
 use borrow.Author.Needs.{needs}
 use borrow.Author.Tests.{not-true, not-false}
-use Rattle.performatives.proofs.Rows.{Left, left-first, fields-many, fields-stop, field-ordered, field-inside, fields-any, fields-unfit, fields-fit, fields-least, fields-all}
+use Rattle.performatives.specs.Inner.{skip}
+use Rattle.performatives.proofs.Found.{next-is, skip-none, skip-next, skip-same}
+use Rattle.performatives.proofs.Rows.{Left, left-first, fields-many, fields-stop, field-ordered, field-inside, fields-any, fields-unfit, fields-fit, fields-least, fields-over, fields-all, last-none, last-is}
 use Rattle.performatives.proofs.fields.fields.Statement.{statement}
 use Rattle.performatives.proofs.fields.fields.Tie as tie
 
-ruleset steps = (fields-many, fields-stop, field-ordered, field-inside, fields-any, fields-unfit, fields-fit, fields-least, fields-all, needs)
+ruleset steps = (fields-many, fields-stop, field-ordered, field-inside, fields-any, fields-fit, fields-least, fields-over, fields-all, last-none, last-is, needs)
 
 abbrev Inv-loop : tie.InvT-loop
-Inv-loop s code count word at₀ i₀ at i = (i ≤ count) × (at ≤ length s) × Left code count s i at
+Inv-loop s code count word at₀ last₀ i₀ at last i = (i ≤ count) × (at ≤ length s) × Left code count s i at × (at ≡ skip i s) × (last ≡ skip (i - 1) s)
 
 abbrev μ-loop : tie.MeasureT-loop
-μ-loop s code count word at₀ i₀ at i = count - i
+μ-loop s code count word at₀ last₀ i₀ at last i = count - i
 
 returns : tie.Need-returns Inv-loop μ-loop
 returns c = search steps
@@ -25,7 +28,7 @@ rows-of-requires : tie.Need-rows-of-requires Inv-loop μ-loop
 rows-of-requires c κs = search steps
 
 loop-holds : tie.Need-loop-holds Inv-loop μ-loop
-loop-holds c = (omega arith, omega arith, left-first _ _ _)
+loop-holds c = (omega arith, omega arith, left-first _ _ _, skip-none _, skip-none _)
 
 end-at-requires : tie.Need-end-at-requires Inv-loop μ-loop
 end-at-requires c κs = search steps
@@ -57,7 +60,7 @@ suits-requires c κs = search steps
 returns-3 : tie.Need-returns-3 Inv-loop μ-loop
 returns-3 c =
     let e = c .before .before .before .before .before in
-    fields-unfit _ _ _ _ _ (e .before .before .loop .inv .2) _ (e .before .loop-test .taken) (e .end-at .ensures) (c .before .before .before .before .if2 .left) (e .before .before .before .before .if1 .left) _ (e .before .before .before .rows-of .ensures) _ (c .before .suits .ensures) (not-true _ (c .if4 .taken))
+    last-none _ _ _ (fields-unfit _ _ _ _ _ (e .before .before .loop .inv .2) _ (e .before .loop-test .taken) (e .end-at .ensures) (c .before .before .before .before .if2 .left) (e .before .before .before .before .if1 .left) _ (e .before .before .before .rows-of .ensures) _ (c .before .suits .ensures) (not-true _ (c .if4 .taken)))
 
 add-i : tie.Need-add-i Inv-loop μ-loop
 add-i c = search steps
@@ -74,6 +77,8 @@ loop-again c =
           (λ w. fields-fit _ _ _ _ _ (e .before .before .loop .inv .2) _ (e .before .loop-test .taken) (e .end-at .ensures) (c .before .if2 .left) (e .before .before .before .before .if1 .left) _ (e .before .before .before .rows-of .ensures) _ (w .2 .ensures) (not-false _ (w .3 .left)))
           (λ w. search steps)
           (c .if3 .came),
+      skip-next _ _ _ _ (e .before .before .loop .inv .3) (next-is _ _ _ (e .end-at .ensures) (c .before .if2 .left)),
+      skip-same _ _ _ (e .before .before .loop .inv .3),
     )
 
 returns-4 : tie.Need-returns-4 Inv-loop μ-loop
@@ -81,6 +86,9 @@ returns-4 c = search steps
 
 returns-5 : tie.Need-returns-5 Inv-loop μ-loop
 returns-5 c = search steps
+
+returns-6 : tie.Need-returns-6 Inv-loop μ-loop
+returns-6 c = search steps
 
 pub fields-spec : {M : Type 1} → statement M
 fields-spec =
@@ -105,4 +113,5 @@ fields-spec =
     loop-less
     loop-again
     returns-4
-    returns-5)
+    returns-5
+    returns-6)
