@@ -21,7 +21,7 @@ enum {
     HISPROAT_FRAME_AT_CHANNEL = 1,  /* 2 bytes */
     HISPROAT_FRAME_AT_BODY = 3,     /* 8 bytes: where the body starts */
     HISPROAT_FRAME_AT_END = 11,     /* 8 bytes: where the performative ends, counted from the body's start; 0 for an empty frame. A Transfer's payload starts there */
-    HISPROAT_FRAME_AT_CONSUMED = 19 /* 8 bytes: how many bytes the frame has */
+    HISPROAT_FRAME_AT_CONSUMED = 19 /* 8 bytes: how many bytes the frame has. The first 4 are 0; whoever reads the last 4 alone does not wait for both halves to be stored */
 };
 
 /* Reads the frame that the slice starts with; bytes after it are not looked at. It has at most `reading_limit` bytes, and its channel is at most `channel_max`.

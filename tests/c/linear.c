@@ -247,6 +247,7 @@ static void ordinary(Frame *f, size_t bytes)
     grown(f, 0xD0, "", "E003015601", bytes, "a list of arrays of a boolean");
     grown(f, 0xD0, "", "E00402004040", bytes, "a list of arrays of described nulls");
     grown(f, 0xD0, "", "E0020240", bytes, "a list of arrays of two nulls");
+    grown(f, 0xD0, "", "E01C02004000400040004000400040004000400040004000400040560101", bytes, "a list of arrays of two booleans, described twelve times");
     grown(f, 0xD0, "", "00E00602C101000100E00602C101000100", bytes, "a list of arrays of two maps that such arrays describe");
     grown(f, 0xD0, "", "F000000005FFFFFFFF40", bytes, "a list of arrays that claim the most");
     grown(f, 0xD1, "", "40", bytes, "a map of nulls");

@@ -43,7 +43,7 @@ apart z = absurd (omega arith)
 -- ---- read_header
 
 -- so many bytes of s from a on, as `number` reads them
-number-in : (s : List ℕ) (a k x : ℕ) → k ≤ 8 → x ≡ bigEndian (take 8 (take k (drop a s))) → x ≡ bigEndian (take k (drop a s))
+pub number-in : (s : List ℕ) (a k x : ℕ) → k ≤ 8 → x ≡ bigEndian (take 8 (take k (drop a s))) → x ≡ bigEndian (take k (drop a s))
 number-in s a k x h e =
     e ∙ ap bigEndian (take-all 8 (take k (drop a s)) (omega (arith, length-take k (drop a s))))
 

@@ -1,10 +1,14 @@
 // The frame reader as C calls it, without an engine: for a program that looks at frames and holds no connection.
 use frame_decoder::Frame;
+use octets::number;
 use octets::put_number;
 use performatives::Performative;
 ghost use mathlib.Core.Path.{_≡_};
+ghost use Prim.Native.Nat.{_≤_};
+ghost use lib.ListN.{length};
 ghost use Rattle.octets.specs.Octets.{put};
 ghost use Rattle.performatives.specs.Answers.{performativeSays};
+ghost use Rattle.frame_decoder.specs.Frame.{sizeOf, channelOf};
 ghost use Rattle.frame_reader.specs.Reading.{frameBytes, told};
 
 // How many bytes are told of a frame.
@@ -34,18 +38,20 @@ fn code_of(performative: Performative) -> u8
     }
 }
 
-// Lays what is told of a frame at the front of the answer, if it fits there.
-fn put_frame(code: u8, channel: u16, from: usize, end: usize, size: usize, answer: &mut [u8])
-    ensures { λ _. ⌜ now (answer .exit) ≡ put (now (answer .entry)) 0 (frameBytes code channel from end size) ⌝ }
+// Lays what is told of a frame at the front of the answer, if it fits there. The channel and the size are read from the frame's header once more: kept since
+// it was judged, they would take registers while the body is read.
+fn put_frame(code: u8, from: usize, end: usize, frame: &[u8], answer: &mut [u8])
+    requires { ⌜ 8 ≤ length (now frame) ⌝ }
+    ensures { λ _. ⌜ now (answer .exit) ≡ put (now (answer .entry)) 0 (frameBytes code (channelOf (now (frame .entry))) from end (sizeOf (now (frame .entry)))) ⌝ }
 {
     if answer.len() < ANSWER_SIZE {
         return;
     }
     put_number(answer, 0, 1, code as u64);
-    put_number(answer, 1, 2, channel as u64);
+    put_number(answer, 1, 2, number(&frame[6..8]));
     put_number(answer, 3, 8, from as u64);
     put_number(answer, 11, 8, end as u64);
-    put_number(answer, 19, 8, size as u64);
+    put_number(answer, 19, 8, number(&frame[..4]));
 }
 
 // Reads the frame that the bytes start with, of at most `reading_limit` bytes and on a channel that is at most `channel_max`, and tells of it.
@@ -65,21 +71,21 @@ pub extern "C" fn hisproat_read_frame(
     match read {
         Frame::Refused(k) => k,
         Frame::Empty {
-            channel,
-            size,
+            channel: _,
+            size: _,
             from,
         } => {
-            put_frame(0, channel, from, 0, size, answer);
+            put_frame(0, from, 0, frame, answer);
             0
         }
         Frame::Body {
-            channel,
-            size,
+            channel: _,
+            size: _,
             from,
             performative,
             end,
         } => {
-            put_frame(code_of(performative), channel, from, end, size, answer);
+            put_frame(code_of(performative), from, end, frame, answer);
             0
         }
     }

@@ -5,7 +5,7 @@ use mathlib.Core.Bool.{Bool, true, false, cond, not, _&&_, and-false}
 use mathlib.Core.List.{List, [], _∷_}
 use mathlib.Core.Option.{Option, none, some}
 use Prim.Native.Nat.{ℕ, zero, suc, _+_, _-_, _*_, _/_, _%_, _^_, _<_, _≤_}
-use native.Mathlib.Nat.{sub-zero}
+use native.Mathlib.Nat.{sub-zero, div-one, div-div-eq-div-mul, pow-suc}
 use native.Mathlib.Numerals.{add-one}
 use native.Mathlib.Omega.{arith}
 use lib.Dec.{eqb, leb}
@@ -132,7 +132,7 @@ module _ (f : List ℕ) (letter : ℕ) (v : R.Row) (p : rowSays v ≡ rowNamed l
   suits-row kind mandatory default b t q = rw (← p, t) q
 
 -- any value may stand in a field of any type
-any-suits : (f : List ℕ) → suits (rowNamed 1) f ≡ true
+any-suits : (f : List ℕ) → suits (rowNamed 0) f ≡ true
 unfolding suits rowNamed rowIn fits hasType
 any-suits f = go (isNull f)
   where
@@ -141,6 +141,21 @@ any-suits f = go (isNull f)
     go false = refl
 
 -- ---- the turns of `fields`
+
+-- the letters of a word from field i on
+abbrev pub From : ℕ → ℕ → ℕ → Type 0
+From word i rows = rows ≡ word / 2 ^ (4 * i)
+
+pub from-first : (word : ℕ) → From word 0 word
+from-first word = sym (div-one word)
+
+sixteenfold : (m : ℕ) → 2 ^ m * 16 ≡ 2 ^ suc (suc (suc (suc m)))
+sixteenfold m = omega (arith, pow-suc 2 m, pow-suc 2 (suc m), pow-suc 2 (suc (suc m)), pow-suc 2 (suc (suc (suc m))))
+
+pub from-next : (word i rows : ℕ) → From word i rows → From word (i + 1) (rows / 16)
+from-next word i rows g =
+    let e : suc (suc (suc (suc (4 * i)))) ≡ 4 * (i + 1) = omega arith in
+    rw g (div-div-eq-div-mul word (2 ^ (4 * i)) 16 ∙ ap (λ (n : ℕ). word / n) (sixteenfold (4 * i) ∙ ap (λ (n : ℕ). 2 ^ n) e))
 
 -- what the fields say, and what is left to say after i of them and `at` bytes
 abbrev pub Left : ℕ → ℕ → List ℕ → ℕ → ℕ → Type 0
@@ -184,18 +199,18 @@ module _ (code count i at : ℕ) (s : List ℕ) (inv : Left code count s i at) w
       pub field-inside : end ≤ length s
       field-inside = place-in 16 at s end p z .1
 
-      module _ (few : count ≤ 14) (word : ℕ) (w : RowsIn code word) where
-        abbrev letter : ℕ
-        letter = word / 2 ^ (4 * i) % 16
+      module _ (few : count ≤ 14) (word rows : ℕ) (w : RowsIn code word) (g : From word i rows) where
+        letter : rowNamed (rows % 16) ≡ fieldAt code i
+        letter = rw g (w .row i (omega arith))
 
-        turned : accepts (fieldsBy (rowsFrom code 0) count s) ≡ suits (rowNamed letter) (take (end - at) (drop at s)) && accepts (fieldsBy (rowsFrom code (i + 1)) (count - (i + 1)) (drop end s))
+        turned : accepts (fieldsBy (rowsFrom code 0) count s) ≡ suits (rowNamed (rows % 16)) (take (end - at) (drop at s)) && accepts (fieldsBy (rowsFrom code (i + 1)) (count - (i + 1)) (drop end s))
         turned =
-            inv ∙ rw (next, w .row i (omega arith)) (step-at code i (count - (i + 1)) at end s field-ordered (place-on 16 at s end p z))
+            inv ∙ rw (next, letter) (step-at code i (count - (i + 1)) at end s field-ordered (place-on 16 at s end p z))
 
-        pub fields-any : letter ≡ 1 → Left code count s (i + 1) end
+        pub fields-any : rows % 16 ≡ 0 → Left code count s (i + 1) end
         fields-any e = turned ∙ rw (e, any-suits (take (end - at) (drop at s)))
 
-        module _ (b : Bool) (q : b ≡ suits (rowNamed letter) (take (end - at) (drop at s))) where
+        module _ (b : Bool) (q : b ≡ suits (rowNamed (rows % 16)) (take (end - at) (drop at s))) where
           pub fields-unfit : b ≡ false → false ≡ accepts (fieldsBy (rowsFrom code 0) count s)
           fields-unfit t = sym (turned ∙ rw (← q, t))
 

@@ -20,9 +20,9 @@ use Rattle.performatives.proofs.Rows.{none-from}
 -- the word of each descriptor from 0 to 24
 abbrev words : List ℕ
 words =
-    replicate 16 0 ++
-    (0x0100001111148623 ∷ 0x0400000011165557 ∷ 0x0011111111111111 ∷ 0x0000011111111111 ∷ 0x0000011111111111 ∷ 0x0000000000111111
-    ∷ 0x0000000000000911 ∷ 0x0000000000000009 ∷ 0x0000000000000009 ∷ [])
+    replicate 16 0x00ffffffffffffff ++
+    (0x01ffff0000037512 ∷ 0x04ffffff00054446 ∷ 0x0000000000000000 ∷ 0x00fff00000000000 ∷ 0x00fff00000000000 ∷ 0x00ffffffff000000
+    ∷ 0x00fffffffffff800 ∷ 0x00fffffffffffff8 ∷ 0x00fffffffffffff8 ∷ [])
 
 abbrev wordOf : ℕ → ℕ
 wordOf k = getD words k 0
@@ -58,11 +58,11 @@ pub word-is : (code k word : ℕ) → code ≡ k → k < 25 → wordOf k ≡ wor
 word-is code k word e h w = rw (e, ← w) (record { row = λ i. row-right k i h; least = λ i. least-right k i h })
 
 -- the last arm of the match
-pub word-none : (code : ℕ) → (code ≡ 16 → ⊥) → (code ≡ 17 → ⊥) → (code ≡ 18 → ⊥) → (code ≡ 19 → ⊥) → (code ≡ 20 → ⊥) → (code ≡ 21 → ⊥) → (code ≡ 22 → ⊥) → (code ≡ 23 → ⊥) → (code ≡ 24 → ⊥) → RowsIn code 0
+pub word-none : (code : ℕ) → (code ≡ 16 → ⊥) → (code ≡ 17 → ⊥) → (code ≡ 18 → ⊥) → (code ≡ 19 → ⊥) → (code ≡ 20 → ⊥) → (code ≡ 21 → ⊥) → (code ≡ 22 → ⊥) → (code ≡ 23 → ⊥) → (code ≡ 24 → ⊥) → RowsIn code 0x00ffffffffffffff
 unfolding fieldAt rowsFrom fieldsOf fieldsIn
 word-none code a b c d e f g h i =
     let n : fieldsOf code ≡ fieldsOf 0 = rw (ne-eqb code 16 a, ne-eqb code 17 b, ne-eqb code 18 c, ne-eqb code 19 d, ne-eqb code 20 e, ne-eqb code 21 f, ne-eqb code 22 g, ne-eqb code 23 h, ne-eqb code 24 i) in
-    let w : RowsIn 0 0 = word-is 0 0 0 refl (omega arith) refl in
+    let w : RowsIn 0 0x00ffffffffffffff = word-is 0 0 0x00ffffffffffffff refl (omega arith) refl in
     record { row = λ j l. w .row j l ∙ ap (λ (o : Option (List Field)). fieldOf o j) (sym n); least = λ j. ap (λ (o : Option (List Field)). fit (drop j (rowsIn o)) []) n ∙ w .least j }
 
 -- ---- the rows by their letters
@@ -71,10 +71,10 @@ pub row-is : (letter n : ℕ) (v : Option Field) → letter ≡ n → v ≡ rowN
 row-is letter n v e q = rw e q
 
 -- the last arm of the match
-pub row-else : (n : ℕ) → (n ≡ 1 → ⊥) → (n ≡ 2 → ⊥) → (n ≡ 3 → ⊥) → (n ≡ 4 → ⊥) → (n ≡ 5 → ⊥) → (n ≡ 6 → ⊥) → (n ≡ 7 → ⊥) → (n ≡ 8 → ⊥) → (n ≡ 9 → ⊥) → none ≡ rowNamed n
+pub row-else : (n : ℕ) → (n ≡ 0 → ⊥) → (n ≡ 1 → ⊥) → (n ≡ 2 → ⊥) → (n ≡ 3 → ⊥) → (n ≡ 4 → ⊥) → (n ≡ 5 → ⊥) → (n ≡ 6 → ⊥) → (n ≡ 7 → ⊥) → (n ≡ 8 → ⊥) → none ≡ rowNamed n
 unfolding rowNamed rowIn
-row-else n h1 h2 h3 h4 h5 h6 h7 h8 h9 =
-    rw (ne-eqb n 1 h1, ne-eqb n 2 h2, ne-eqb n 3 h3, ne-eqb n 4 h4, ne-eqb n 5 h5, ne-eqb n 6 h6, ne-eqb n 7 h7, ne-eqb n 8 h8, ne-eqb n 9 h9)
+row-else n h0 h1 h2 h3 h4 h5 h6 h7 h8 =
+    rw (ne-eqb n 0 h0, ne-eqb n 1 h1, ne-eqb n 2 h2, ne-eqb n 3 h3, ne-eqb n 4 h4, ne-eqb n 5 h5, ne-eqb n 6 h6, ne-eqb n 7 h7, ne-eqb n 8 h8)
 
 -- field i of a performative
 pub field-is : (code i word : ℕ) (v : Option Field) → RowsIn code word → i < 14 → v ≡ rowNamed (word / 2 ^ (4 * i) % 16) → v ≡ fieldAt code i

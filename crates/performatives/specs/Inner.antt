@@ -52,8 +52,8 @@ rowIn (r ∷ rs) n = cond (eqb n (r .0)) (some (r .1)) (rowIn rs n)
 unfoldable pub rowNamed : ℕ → Option Field
 rowNamed n =
     rowIn
-    ((1, may Any) ∷ (2, may String) ∷ (3, must String) ∷ (4, may UInt) ∷ (5, must UInt) ∷ (6, defaults UInt 4294967295)
-    ∷ (7, may UShort) ∷ (8, defaults UShort 65535) ∷ (9, may Error) ∷ [])
+    ((0, may Any) ∷ (1, may String) ∷ (2, must String) ∷ (3, may UInt) ∷ (4, must UInt) ∷ (5, defaults UInt 4294967295)
+    ∷ (6, may UShort) ∷ (7, defaults UShort 65535) ∷ (8, may Error) ∷ [])
     n
 
 -- the letters in a word, four bits each, are those of a performative's fields; above them stands how many fields there must be

@@ -13,24 +13,24 @@ ghost use Rattle.performatives.specs.Answers.{typeSays, rowSays};
 ghost use Rattle.performatives.specs.Inner.{rowNamed, RowsIn, suits, fittingSays, lastOf};
 
 // The letters of the words below: what a field is. One that is mandatory begins with MUST, and in one that ends with MAX null stands for the greatest number.
-// 0 is past the last field.
-const ANY: u64 = 1;
+// F is past the last field.
+const ANY: u64 = 0;
 
-const STRING: u64 = 2;
+const STRING: u64 = 1;
 
-const MUST_STRING: u64 = 3;
+const MUST_STRING: u64 = 2;
 
-const UINT: u64 = 4;
+const UINT: u64 = 3;
 
-const MUST_UINT: u64 = 5;
+const MUST_UINT: u64 = 4;
 
-const UINT_OR_MAX: u64 = 6;
+const UINT_OR_MAX: u64 = 5;
 
-const USHORT: u64 = 7;
+const USHORT: u64 = 6;
 
-const USHORT_OR_MAX: u64 = 8;
+const USHORT_OR_MAX: u64 = 7;
 
-const ERROR: u64 = 9;
+const ERROR: u64 = 8;
 
 // A word for each performative. Its last fourteen hexadecimal digits are the letters of its fields, the last one that of the first field; before them stands
 // the least number of fields such that none that is mandatory is missing. A `match`, since an array would be laid on the stack at each use.
@@ -38,16 +38,16 @@ pub(crate) fn rows_of(code: u64) -> u64
     ensures { λ r. ⌜ RowsIn code r ⌝ }
 {
     match code {
-        16 => 0x01_00001111148623, // Open
-        17 => 0x04_00000011165557, // Begin
-        18 => 0x00_11111111111111, // Attach
-        19 => 0x00_00011111111111, // Flow
-        20 => 0x00_00011111111111, // Transfer
-        21 => 0x00_00000000111111, // Disposition
-        22 => 0x00_00000000000911, // Detach
-        23 => 0x00_00000000000009, // End
-        24 => 0x00_00000000000009, // Close
-        _ => 0,
+        16 => 0x01_ffff0000037512, // Open
+        17 => 0x04_ffffff00054446, // Begin
+        18 => 0x00_00000000000000, // Attach
+        19 => 0x00_fff00000000000, // Flow
+        20 => 0x00_fff00000000000, // Transfer
+        21 => 0x00_ffffffff000000, // Disposition
+        22 => 0x00_fffffffffff800, // Detach
+        23 => 0x00_fffffffffffff8, // End
+        24 => 0x00_fffffffffffff8, // Close
+        _ => 0x00_ffffffffffffff,
     }
 }
 
@@ -145,6 +145,7 @@ pub(crate) fn fields(s: &[u8], code: u64, count: u32) -> Fitting
         return Fitting::Unfit;
     }
     let word = rows_of(code);
+    let mut rows = word;
     let mut at: usize = 0;
     let mut last: usize = 0;
     let mut i: u32 = 0;
@@ -153,12 +154,13 @@ pub(crate) fn fields(s: &[u8], code: u64, count: u32) -> Fitting
         if end == 0 {
             return Fitting::Unfit;
         }
-        let letter = (word >> (4 * i)) % 16;
+        let letter = rows % 16;
         if letter != ANY {
             if !suits(&s[at..end], letter) {
                 return Fitting::Unfit;
             }
         }
+        rows = rows / 16;
         last = at;
         at = end;
         i += 1;

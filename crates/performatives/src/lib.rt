@@ -128,7 +128,7 @@ pub fn described_list(s: &[u8]) -> Described
             }
         }
     }
-    any_described(s)
+    any_described(&s[..])
 }
 
 // The third field lies from `a` to `b`, the fourth from there to `c`, and the fifth from there to `d`.

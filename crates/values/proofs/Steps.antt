@@ -75,11 +75,15 @@ front : (s : List ℕ) (at : ℕ) → getD (drop at s) 0 0 ≡ getD s at 0
 front s at = getD-drop at s 0 0 ∙ ap (λ (n : ℕ). getD s n 0) (add-zero at)
 
 module _ (s : List ℕ) (at n : ℕ) where
-  pub bytes-off : length s - at < n → 0 ≡ placeAfter at (bytes n (drop at s))
-  bytes-off h = rw (← bytes-no n (drop at s) (omega (arith, length-drop at s)))
+  pub bytes-off : at ≤ length s → length s < at + n → 0 ≡ placeAfter at (bytes n (drop at s))
+  bytes-off h k = rw (← bytes-no n (drop at s) (omega (arith, length-drop at s)))
 
-  pub bytes-on : n ≤ length s - at → at + n ≡ placeAfter at (bytes n (drop at s))
+  pub bytes-on : at + n ≤ length s → at + n ≡ placeAfter at (bytes n (drop at s))
   bytes-on h = rw (← bytes-yes n (drop at s) (omega (arith, length-drop at s)))
+
+-- a slice has fewer than 2 ^ 63 bytes
+pub end-fits : (s : List ℕ) (at n : ℕ) → length s * 1 < 2 ^ 63 → at ≤ length s → n < 2 ^ 63 → Fits w64 (at + n)
+end-fits s at n l h k = omega arith
 
 pub sum-fits : (s : List ℕ) (at n : ℕ) → length s < 2 ^ 64 → at ≤ length s → n ≤ length s - at → Fits w64 (at + n)
 sum-fits s at n l h k = omega arith
@@ -309,9 +313,13 @@ value-shallow s at d z = rw z
 pub run-past : (s : List ℕ) (at d count : ℕ) → length s ≤ at → 0 ≡ placeAfter at (run d count (drop at s))
 run-past s at d count h = place-none at 6 _ (sym (run-none d count (drop at s) (ap length (drop-past s at h))))
 
--- a count of 32 bits times a width of 32
-pub product-fits : (a b : ℕ) → a < 2 ^ 32 → Fits w32 b → Fits w64 (a * b)
-product-fits a b h k = let m : a * b ≤ a * 2 ^ 32 = mul-le-mul-left a (le-of-lt (k .fits)) in omega arith
+-- a count of 32 bits times a width
+module _ (a b : ℕ) (h : a < 2 ^ 32) (k : b < 2 ^ 27) where
+  pub product-low : a * b < 2 ^ 63
+  product-low = let m : a * b ≤ a * 2 ^ 27 = mul-le-mul-left a (le-of-lt k) in omega arith
+
+  pub product-fits : Fits w64 (a * b)
+  product-fits = omega (arith, product-low)
 
 -- ---- described_end
 

@@ -20,6 +20,9 @@ pub line-right : (c : ℕ) → c < 256 → 1 * 2 ^ (c / 16) % 2 ^ 32 / 32 ≡ fi
 unfolding upFrom fixedWidth
 line-right c h = same-below (λ c. 1 * 2 ^ (c / 16) % 2 ^ 32 / 32) fixedWidth 256 refl c h
 
+pub line-low : (x : ℕ) → x % 2 ^ 32 / 32 < 2 ^ 27
+line-low x = omega arith
+
 -- a word for each upper half, with four bits for each code
 abbrev kinds : List ℕ
 kinds =

@@ -1,6 +1,6 @@
 // The format codes of Part 1: which there are, of which kind each is, and how wide the fixed ones are.
 ghost use mathlib.Core.Path.{_≡_};
-ghost use Prim.Native.Nat.{_<_};
+ghost use Prim.Native.Nat.{_^_, _<_};
 ghost use Rattle.values.specs.Value.{kindOf};
 ghost use Rattle.values.specs.Widths.{fixedWidth};
 ghost use Rattle.values.specs.Plain.{isKnown, isPlain, BitsOf};
@@ -68,7 +68,7 @@ const KINDS: [u64; 16] = [
 
 // The width of a code from 40 to 9F, by its upper half: no byte for 4, and for 5 to 9 one, two, four, eight and sixteen.
 pub(crate) fn fixed_width(c: u8) -> u32
-    ensures { λ r. ⌜ r ≡ fixedWidth c ⌝ }
+    ensures { λ r. ⌜ (r ≡ fixedWidth c) × (r < 2 ^ 27) ⌝ }
 {
     (1 << (c >> 4)) >> 5
 }

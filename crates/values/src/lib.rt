@@ -73,13 +73,14 @@ fn number_at(s: &[u8], at: usize, wide: bool) -> usize
 // ---- bodies without values in them
 
 fn bytes_end(s: &[u8], at: usize, n: usize) -> usize
-    requires { ⌜ at ≤ length (now s) ⌝ }
+    requires { ⌜ (at ≤ length (now s)) × (n < 2 ^ 63) ⌝ }
     ensures { λ r. ⌜ (r ≡ placeAfter at (bytes n (drop at (now (s .entry))))) × (r ≤ length (now (s .entry))) ⌝ }
 {
-    if s.len() - at < n {
+    let end = at + n;
+    if s.len() < end {
         return 0;
     }
-    at + n
+    end
 }
 
 // The body of the code 56, a byte that is 00 or 01.
@@ -170,6 +171,7 @@ fn plains_end(s: &[u8], at: usize, count: usize) -> usize
 }
 
 // The place after the value at a place, which stands at the first of `depth` levels; 0 where it is malformed, or where there are no bytes. Most values are plain.
+// (`&s[..]` is a slice made for the others alone: `s` itself, lent on, would be stored for every value.)
 pub fn end_at(s: &[u8], at: usize, depth: u8) -> usize
     ensures { λ r. ⌜ r ≡ placeAfter at (valueEnd depth (drop at (now (s .entry)))) ⌝ }
 {
@@ -182,7 +184,7 @@ pub fn end_at(s: &[u8], at: usize, depth: u8) -> usize
     if is_plain(s[at]) {
         return plain_end(s, at);
     }
-    other_end(s, at, depth, s[at])
+    other_end(&s[..], at, depth, s[at])
 }
 
 // The same of a value of the code `c`, which is not plain. What is often met is told by its code; all else by the table of codes.
@@ -389,5 +391,5 @@ pub fn value_end(s: &[u8], depth: u8) -> Value
     if is_plain(s[0]) {
         return value_to(plain_end(s, 0));
     }
-    value_to(other_end(s, 0, depth, s[0]))
+    value_to(other_end(&s[..], 0, depth, s[0]))
 }

@@ -1,11 +1,11 @@
 -- `hisproat_read_frame`: too little room, or what the frame comes to.
 -- Assumes nothing.
 use borrow.Author.Needs.{needs}
-use Rattle.frame_reader.proofs.Laws.{told-short, told-refused, told-empty, told-body}
+use Rattle.frame_reader.proofs.Laws.{told-short, told-refused, empty-long, told-empty, body-long, told-body}
 use Rattle.frame_reader.proofs.hisproat_read_frame.Statement.{statement}
 use Rattle.frame_reader.proofs.hisproat_read_frame.Tie as tie
 
-ruleset steps = (told-short, told-refused, told-empty, told-body, needs)
+ruleset steps = (told-short, told-refused, empty-long, told-empty, body-long, told-body, needs)
 
 returns : tie.Need-returns
 returns c = search steps
@@ -20,7 +20,7 @@ enum-known-read-2 : tie.Need-enum-known-read-2
 enum-known-read-2 c = search needs
 
 put-frame-requires : tie.Need-put-frame-requires
-put-frame-requires c κs = search needs
+put-frame-requires c κs = search steps
 
 enum-known-read-3 : tie.Need-enum-known-read-3
 enum-known-read-3 c = search needs
@@ -29,7 +29,7 @@ code-of-requires : tie.Need-code-of-requires
 code-of-requires c κs = search needs
 
 put-frame-requires-2 : tie.Need-put-frame-requires-2
-put-frame-requires-2 c κs = search needs
+put-frame-requires-2 c κs = search steps
 
 returns-2 : tie.Need-returns-2
 returns-2 c = search steps

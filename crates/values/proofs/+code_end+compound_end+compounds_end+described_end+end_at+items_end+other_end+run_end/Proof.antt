@@ -12,7 +12,7 @@ use Rattle.values.specs.Value.{times, items, compoundEnd, run}
 use Rattle.values.specs.Answers.{placeAfter, widthOf, shapeOf}
 use Rattle.values.proofs.Turns.{left, turn-first, turn-stop, turn-more, turn-last}
 use Rattle.values.proofs.Places.{place-past}
-use Rattle.values.proofs.Steps.{plain-yes, plain-deep, plains-deep, not-described, value-described, value-boolean, value-small, value-array, run-small, run-array, code-unknown, bodies-fixed, bodies-boolean, bodies-variable, bodies-list, bodies-map, bodies-array, product-fits, run-one, one-value, value-shallow, run-past, run-shallow, run-describes, none-known, none-unknown, run-deep, described-shallow, described-off, described-on, next-in, items-array, items-each, as-run}
+use Rattle.values.proofs.Steps.{plain-yes, plain-deep, plains-deep, not-described, value-described, value-boolean, value-small, value-array, run-small, run-array, code-unknown, bodies-fixed, bodies-boolean, bodies-variable, bodies-list, bodies-map, bodies-array, product-fits, product-low, run-one, one-value, value-shallow, run-past, run-shallow, run-describes, none-known, none-unknown, run-deep, described-shallow, described-off, described-on, next-in, items-array, items-each, as-run}
 use Rattle.values.proofs.Compounds.{part-count, compound-off, count-in, count-fits, from-fits, from-some, from-in, compound-odd, compound-filled, compound-else}
 use Rattle.values.proofs.code_end.Reads as code-end
 use Rattle.values.proofs.code_end.Kinds as code-end-kinds
@@ -55,7 +55,7 @@ use Rattle.values.proofs.format_code.is_known.Reads as is-known-reads
 use Rattle.values.proofs.+code_end+compound_end+compounds_end+described_end+end_at+items_end+other_end+run_end.{statement}
 use Rattle.values.proofs.+code_end+compound_end+compounds_end+described_end+end_at+items_end+other_end+run_end.Tie.{close}
 
-ruleset code-end-steps = (run-small, run-array, code-unknown, bodies-fixed, bodies-boolean, bodies-variable, bodies-list, bodies-map, bodies-array, product-fits, needs)
+ruleset code-end-steps = (run-small, run-array, code-unknown, bodies-fixed, bodies-boolean, bodies-variable, bodies-list, bodies-map, bodies-array, product-fits, product-low, needs)
 
 ruleset compound-end-steps = (not-true, not-false, part-count, compound-off, count-in, count-fits, from-fits, from-some, from-in, compound-odd, compound-filled, compound-else, needs)
 

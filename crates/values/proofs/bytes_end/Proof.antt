@@ -1,20 +1,17 @@
 -- `bytes_end`: one law for each answer.
 -- Assumes nothing.
 use borrow.Author.Needs.{needs}
-use Rattle.values.proofs.Steps.{bytes-off, bytes-on, sum-fits}
+use Rattle.values.proofs.Steps.{bytes-off, bytes-on, end-fits}
 use Rattle.values.proofs.bytes_end.Statement.{statement}
 use Rattle.values.proofs.bytes_end.Tie as tie
 
-ruleset steps = (bytes-off, bytes-on, sum-fits, needs)
+ruleset steps = (bytes-off, bytes-on, end-fits, needs)
 
-sub-if1 : tie.Need-sub-if1
-sub-if1 c = search steps
+add-end : tie.Need-add-end
+add-end c = search steps
 
 returns : tie.Need-returns
 returns c = search steps
-
-add-result : tie.Need-add-result
-add-result c = search steps
 
 returns-2 : tie.Need-returns-2
 returns-2 c = search steps
@@ -23,7 +20,6 @@ pub bytes-end-spec : {M : Type 1} → statement M
 bytes-end-spec =
     tie.close
     (tie.spec
-    sub-if1
+    add-end
     returns
-    add-result
     returns-2)

@@ -1,11 +1,11 @@
 -- `plains_end`: one law for each answer.
 -- Assumes nothing.
 use borrow.Author.Needs.{needs}
-use Rattle.values.proofs.Steps.{plains-short, plains-sized, product-fits}
+use Rattle.values.proofs.Steps.{plains-short, plains-sized, product-fits, product-low}
 use Rattle.values.proofs.plains_end.Statement.{statement}
 use Rattle.values.proofs.plains_end.Tie as tie
 
-ruleset steps = (plains-short, plains-sized, product-fits, needs)
+ruleset steps = (plains-short, plains-sized, product-fits, product-low, needs)
 
 shared-slice-read-c : tie.Need-shared-slice-read-c
 shared-slice-read-c c = search steps

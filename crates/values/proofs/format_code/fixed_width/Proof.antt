@@ -1,11 +1,11 @@
 -- `fixed_width`: the rule of the line, over all codes.
 -- Assumes nothing.
 use borrow.Author.Needs.{needs}
-use Rattle.values.proofs.Table.{line-right}
+use Rattle.values.proofs.Table.{line-right, line-low}
 use Rattle.values.proofs.format_code.fixed_width.Statement.{statement}
 use Rattle.values.proofs.format_code.fixed_width.Tie as tie
 
-ruleset steps = (line-right, needs)
+ruleset steps = (line-right, line-low, needs)
 
 cast-result : tie.Need-cast-result
 cast-result c = search steps

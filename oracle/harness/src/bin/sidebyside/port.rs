@@ -68,7 +68,8 @@ impl Contender for Codec {
             // The slices are whole and apart from each other.
             let refused = unsafe { hisproat_read_frame(rest.as_ptr(), rest.len(), MAX_FRAME_SIZE, CHANNEL_MAX, answer.as_mut_ptr(), 27) };
             assert_eq!(refused, 0, "a good frame");
-            let (body, end, size) = (number(&answer[3..11]), number(&answer[11..19]), number(&answer[19..]));
+            // The size has 32 bits: the last four of its bytes.
+            let (body, end, size) = (number(&answer[3..11]), number(&answer[11..19]), number(&answer[23..]));
             match answer[0] {
                 TRANSFER => self.0.transfer(session_of(number(&answer[1..3]) as u16), size - body - end, rest[size - 1]),
                 _ => self.0.others += 1,
