@@ -24,7 +24,7 @@
 #include <stdlib.h>
 #include <string.h>
 
-enum { PADS = 8, LANES = 6, SESSIONS_EACH = 4, SESSIONS = PADS * SESSIONS_EACH, MAX_FRAME = 1024, MAX_PIECE = 255, TICK_EVERY = 32 };
+enum { PADS = 8, LANES = 6, SESSIONS_EACH = 4, SESSIONS = PADS * SESSIONS_EACH, CHANNEL_MAX = 7, MAX_FRAME = 1024, MAX_PIECE = 255, TICK_EVERY = 32 };
 
 typedef struct {
     const char *name;
@@ -43,7 +43,7 @@ typedef struct {
 
 /* A connection: its engine, what came and is not yet a whole frame, and how it ended. */
 typedef struct {
-    uint8_t state[HISPROAT_STATE_SIZE];
+    uint8_t state[HISPROAT_STATE_SIZE(CHANNEL_MAX)];
     uint8_t held[MAX_FRAME + MAX_PIECE];
     size_t held_len;
     int has_header;
@@ -380,7 +380,7 @@ int main(int argc, char **argv)
         return 2;
     }
     for (unsigned pad = 0; pad < PADS; pad++) {
-        uint8_t refused = hisproat_listener(hub.lines[pad].state, HISPROAT_STATE_SIZE, (const uint8_t *)"hub", 3, MAX_FRAME, 7, 1, 30000);
+        uint8_t refused = hisproat_listener(hub.lines[pad].state, sizeof hub.lines[pad].state, (const uint8_t *)"hub", 3, MAX_FRAME, CHANNEL_MAX, 1, 30000);
         if (refused != HISPROAT_OK)
             fail("the settings", refused);
     }

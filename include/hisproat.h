@@ -10,9 +10,14 @@
  *
  * All memory is yours. A call uses what it is lent until it returns, and keeps no pointer.
  *
- *   state     exactly HISPROAT_STATE_SIZE bytes: the engine itself. hisproat_dialler or hisproat_listener makes it; every event changes it in place.
+ *   state     HISPROAT_STATE_SIZE(channel_max) bytes at least: the engine itself. hisproat_dialler or hisproat_listener makes it; every event changes it in place.
  *             It has no pointers inside: it may be moved, copied, kept in storage and brought back. A copy is another engine that stands where the first one stood.
- *             Every call checks it from the first byte to the last. Bytes that are not a sound engine are refused with 8 and left as they are.
+ *             The first HISPROAT_FIXED_SIZE bytes are the fixed part; behind it stand the tables, 28 bytes for each channel from 0 to channel_max. A new engine
+ *             believes nothing that stood there. Bytes past the tables are neither looked at nor changed.
+ *             Every call checks the fixed part whole, and that the tables are long enough: what is not an engine's is refused with 8 and left as it is. The tables are
+ *             not looked through: only hisproat_dialler and hisproat_listener, which clear a mark in each place, cost more for having more channels.
+ *             The tables belong to the engine. If you write into them between calls, each call still ends, stays inside its slices, and changes nothing where
+ *             it returns a refusal; but which channels are taken and tied is then up to what you wrote.
  *   input     bytes that are only read: a frame, waiting frames, a header, a text.
  *   output    where frames are written. At least HISPROAT_OUTPUT_ROOM bytes, whatever the length of a frame that you lend; where waiting frames are lent to the same
  *             call, hisproat_room(n), n being how many bytes of them there are. Less is refused with 9, also where nothing would be written. What was written
@@ -28,7 +33,7 @@
  *
  * Every function returns 0, or the number of a refusal (HISPROAT_REFUSED_..). A refusal changes no lent byte: state, output and answer are as they were, and
  * the call may be made again. Refusals are named at each function in the order of judgement: first the sizes of output and answer (9), from their lengths alone and
- * whatever the state's bytes are; then the state (8); then the rest.
+ * whatever the state's bytes are; then the state (8): its fixed part and its length; then the rest.
  *
  * On 0 the answer of an event tells, at these places, numbers big-endian:
  *
@@ -77,8 +82,8 @@
  *
  * There are no globals and no thread-local data. Calls on different states may run at the same time. Calls on one state, and on any slice that a call writes
  * to, must come one after the other. Of the C library only memcpy and memset are used.
- * A call keeps copies of the engine on the stack. The most that was measured is 50,712 bytes, in hisproat_on_incoming with a frame for a session
- * that is not there: give a thread that calls 64 KiB besides its own.
+ * The most stack that was measured is 10,112 bytes, in hisproat_on_close_with_error while a frame waits whose values stand in arrays, sixteen deep; a Transfer that
+ * comes takes 886. Give a thread that calls 12 KiB besides its own.
  *
  *
  * EXAMPLE: a listener that reads a whole recorded input. Returns the outcome, or -1 where an argument was refused.
@@ -87,7 +92,7 @@
  *
  *     int listen_to(const uint8_t *input, size_t length, void (*send)(const uint8_t *bytes, size_t count))
  *     {
- *         static uint8_t state[HISPROAT_STATE_SIZE], output[HISPROAT_OUTPUT_ROOM], answer[HISPROAT_ANSWER_SIZE];
+ *         static uint8_t state[HISPROAT_STATE_SIZE(7)], output[HISPROAT_OUTPUT_ROOM], answer[HISPROAT_ANSWER_SIZE];
  *         const uint8_t *none = (const uint8_t *)""; // a slice of length 0 still has a pointer
  *         uint32_t next_handle = 0;
  *
@@ -134,12 +139,16 @@ extern "C" {
 /* ---- Sizes, in bytes */
 
 enum {
-    HISPROAT_STATE_SIZE = 3102,  /* a state has exactly so many */
+    HISPROAT_FIXED_SIZE = 300,   /* the fixed part of a state; the tables stand behind it */
+    HISPROAT_PLACE_SIZE = 28,    /* a channel's place in the tables */
     HISPROAT_ANSWER_SIZE = 42,   /* an event's answer */
-    HISPROAT_STATUS_SIZE = 16,   /* the answer of hisproat_status */
+    HISPROAT_STATUS_SIZE = 19,   /* the answer of hisproat_status */
     HISPROAT_HANDLE_SIZE = 5,    /* the answer of hisproat_handle_at and hisproat_tied_handle */
     HISPROAT_OUTPUT_ROOM = 16384 /* the least output, and the longest frame that is written; hisproat_room has what waiting frames add */
 };
+
+/* The least that a state has for a channel-max: 328 bytes for 0, which is one channel, 7,468 for 255, 1,835,308 for 65,535. */
+#define HISPROAT_STATE_SIZE(channel_max) (HISPROAT_FIXED_SIZE + HISPROAT_PLACE_SIZE * ((size_t)(channel_max) + 1))
 
 /* ---- Limits of the settings and of an error's texts. What is beyond them is refused with 8. */
 
@@ -147,7 +156,7 @@ enum {
     HISPROAT_MAX_CONTAINER_ID = 255, /* bytes of UTF-8 */
     HISPROAT_MIN_FRAME_SIZE = 512,   /* max-frame-size, from */
     HISPROAT_MAX_FRAME_SIZE = 16384, /* to */
-    HISPROAT_MAX_CHANNEL_MAX = 255,  /* channel-max */
+    HISPROAT_MAX_CHANNEL_MAX = 65535, /* channel-max */
     HISPROAT_MAX_CONDITION = 255,    /* bytes of ASCII */
     HISPROAT_MAX_DESCRIPTION = 255   /* bytes of UTF-8 */
 };
@@ -165,7 +174,7 @@ enum {
     HISPROAT_REFUSED_FRAME_TYPE = 5,         /* R I a frame's type is not 0 or its doff not 2 */
     HISPROAT_REFUSED_BODY_MALFORMED = 6,     /* R I a body malformed; or, of a frame to be sent, not a session's performative or followed by bytes */
     HISPROAT_REFUSED_CHANNEL_TOO_HIGH = 7,   /* R I an incoming channel, or the remote-channel of a Begin to be sent, above the local channel-max */
-    HISPROAT_REFUSED_BEYOND_LIMITS = 8,      /* R   a setting or text beyond its limits; a state of another size, or whose bytes are no sound engine */
+    HISPROAT_REFUSED_BEYOND_LIMITS = 8,      /* R   a setting or text beyond its limits; a state that is too short, or whose fixed part is no engine's */
     HISPROAT_REFUSED_NO_ROOM = 9,            /* R   output or answer too small */
     HISPROAT_REFUSED_ILLEGAL_STATE = 20,     /* R I not in this phase or state */
     HISPROAT_REFUSED_NOT_OPENED = 21,        /* R   no channels before the peer's Open */
@@ -244,8 +253,8 @@ enum {
     HISPROAT_STATUS_AT_READING_LIMIT = 4, /* 4 bytes: the longest frame that is read */
     HISPROAT_STATUS_AT_WRITING_LIMIT = 8, /* 4 bytes: the longest frame that is written */
     HISPROAT_STATUS_AT_AGREED = 12,       /* 1 after the peer's Open, else 0 */
-    HISPROAT_STATUS_AT_CHANNEL_MAX = 13,  /* the agreed channel-max, the smaller of both sides' */
-    HISPROAT_STATUS_AT_TAKEN = 14         /* 2 bytes: how many outgoing channels are taken */
+    HISPROAT_STATUS_AT_CHANNEL_MAX = 13,  /* 2 bytes: the agreed channel-max, the smaller of both sides' */
+    HISPROAT_STATUS_AT_TAKEN = 15         /* 4 bytes: how many outgoing channels are taken */
 };
 
 enum { HISPROAT_ROLE_DIALLER = 0, HISPROAT_ROLE_LISTENER = 1 };
@@ -281,7 +290,7 @@ enum {
  * Lays a new engine into the state, whatever stood there. The container-id is copied. The idle-time-out, in milliseconds, is what the peer is told; where
  * has_idle_time_out is 0 it is not looked at. Flags: 0 is no, any other number is yes.
  * A dialler takes no session that the peer begins (25); a listener does.
- * 8: the state has another size, or a setting is beyond its limits. */
+ * 8: a setting is beyond its limits, or the state is shorter than HISPROAT_STATE_SIZE(channel_max). */
 
 uint8_t hisproat_dialler(uint8_t *state, size_t state_len, const uint8_t *container_id, size_t container_id_len, uint32_t max_frame_size,
                          uint16_t channel_max, uint8_t has_idle_time_out, uint32_t idle_time_out);

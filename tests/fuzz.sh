@@ -62,11 +62,13 @@ instrument() {
 
 # The target with that module, and with the archive as it is.
 build() {
-    for part in fuzz rig; do
+    local objects=()
+    for part in fuzz rig judge fence; do
         clang-14 -std=c11 -O2 -g -Wall -Wextra -Werror -pedantic -Iinclude -Itests/c -c "tests/c/$part.c" -o "$work/$part.o"
+        objects+=("$work/$part.o")
     done
-    clang-14 -fsanitize=fuzzer,address "$work/fuzz.o" "$work/rig.o" "$work/covered.o" -o "$work/covered"
-    clang-14 -fsanitize=fuzzer "$work/fuzz.o" "$work/rig.o" "$archive" -o "$work/shipped"
+    clang-14 -fsanitize=fuzzer,address "${objects[@]}" "$work/covered.o" -o "$work/covered"
+    clang-14 -fsanitize=fuzzer "${objects[@]}" "$archive" -o "$work/shipped"
 }
 
 # The corpus, a file for each line.

@@ -11,13 +11,15 @@ from pathlib import Path
 
 LIBRARY = "crates/hisproat/src"
 READER = "crates/frame_reader/src"
-BYTES = "crates/engine_bytes/src/lib.rt"
+BYTES = "crates/engine_bytes/src"
+PLACES = "crates/channels/src/places.rt"
 STATES = "crates/connection_state/src/lib.rt"
 CONNECTION = "crates/connection/src/lib.rt"
 
 # the header's constants that are constants in the sources: the file and the name there
 CONSTANTS = {
-    "HISPROAT_STATE_SIZE": (BYTES, "STATE_SIZE"),
+    "HISPROAT_FIXED_SIZE": (BYTES, "FIXED_SIZE"),
+    "HISPROAT_PLACE_SIZE": (PLACES, "PLACE_SIZE"),
     "HISPROAT_ANSWER_SIZE": (LIBRARY, "ANSWER_SIZE"),
     "HISPROAT_STATUS_SIZE": (LIBRARY, "STATUS_SIZE"),
     "HISPROAT_HANDLE_SIZE": (LIBRARY, "HANDLE_SIZE"),
@@ -30,7 +32,7 @@ CONSTANTS = {
 # the last place of an answer, how many bytes it has, and the answer's size
 ANSWERS = [
     ("HISPROAT_AT_WRITTEN", 8, "HISPROAT_ANSWER_SIZE"),
-    ("HISPROAT_STATUS_AT_TAKEN", 2, "HISPROAT_STATUS_SIZE"),
+    ("HISPROAT_STATUS_AT_TAKEN", 4, "HISPROAT_STATUS_SIZE"),
     ("HISPROAT_HANDLE_AT_NUMBER", 4, "HISPROAT_HANDLE_SIZE"),
     ("HISPROAT_FRAME_AT_CONSUMED", 8, "HISPROAT_FRAME_SIZE"),
 ]
@@ -93,8 +95,9 @@ def told(entry):
 
 def compared(what, ours, theirs):
     """Faults of two tables that must be the same: the header's and the sources'."""
-    if not theirs:
-        return [f"{what}: none found in the sources"]
+    missing = [name for name, entry in theirs.items() if entry is None]
+    if not theirs or missing:
+        return [f"{what}: none found in the sources {', '.join(missing)}".rstrip()]
     unlike = (name for name in sorted(set(ours) | set(theirs)) if ours.get(name) != theirs.get(name))
     return [f"{what} {name}: the header has {told(ours.get(name))}, the sources have {told(theirs.get(name))}" for name in unlike]
 

@@ -14,7 +14,7 @@ import tempfile
 from pathlib import Path
 
 # For each way of reading: the instructions of a call, and those of a byte. The most that was seen is about two thirds of that (docs/PERFORMANCE.md).
-BOUNDS = {"typical": (1500, 0), "reader": (1500, 52), "engine": (20000, 52), "to-send": (30000, 360), "written": (1500, 0)}
+BOUNDS = {"typical": (1500, 0), "reader": (1500, 52), "engine": (1500, 52), "to-send": (1500, 360), "written": (1500, 0)}
 
 WAYS = ("reader", "engine", "to-send")
 

@@ -3,7 +3,7 @@
 
     python3 tests/make_cases.py > crates/cases/stdin
 
-Every expectation comes from OASIS AMQP 1.0 (Part 1, Part 2), from RFC 3629 or from document 01, and is known by the way
+Every expectation comes from OASIS AMQP 1.0 (Part 1, Part 2), from RFC 3629 or from documents 01 and 02, and is known by the way
 the case is made: a value is put together from its parts, or is put together and then damaged in one place. Nothing here
 reads AMQP, and nothing is taken from the code that is tested. The tables of codes and of fields are this script's own.
 
@@ -930,6 +930,8 @@ def make_written():
         case_open(p1, frame_size, 7, None, form + ': max-frame-size')
     for channels in (0, 255):
         case_open(p1, 512, channels, None, form + ': channel-max')
+    for channels in (256, 65535):
+        case_open(p1, 512, channels, None, 'document 02, wish 9: channel-max')
     for container in ('', '61', 'C3A9', '61*243', '61*244', '61*255'):
         case_open(container, 512, 7, None, form + ': container-id')
     case_open('61*238', 512, 7, 256, form + ': container-id')
@@ -937,8 +939,6 @@ def make_written():
     limits = 'document 01, a setting beyond its limit'
     for frame_size in (0, 511, 16385, 4294967295):
         case_open(p1, frame_size, 7, None, limits, 'refused 8')
-    for channels in (256, 65535):
-        case_open(p1, 512, channels, None, limits, 'refused 8')
     case_open('61*256', 512, 7, None, limits, 'refused 8')
     for container in ('FF', 'C3', '61C328', 'EDA080'):
         case_open(container, 512, 7, None, 'document 01, a container-id that is not UTF-8', 'refused 8')
@@ -1120,7 +1120,7 @@ def make_session_written():
 
 
 HEAD = """\
-# Cases for the codec, made by tests/make_cases.py from OASIS AMQP 1.0, RFC 3629 and document 01:
+# Cases for the codec, made by tests/make_cases.py from OASIS AMQP 1.0, RFC 3629 and documents 01 and 02:
 #     python3 tests/make_cases.py > crates/cases/stdin
 # A case is a letter, its numbers, its bytes, the answer after = and the source of that after the semicolon. src/main.rt says what each letter runs.
 # Bytes are hexadecimal: _ parts them for the eye, 61*300 is the byte 61 three hundred times, - is none. A refusal has the number of document 01.

@@ -82,6 +82,15 @@ def made():
     call("hub", "listener", 16384)
 
 
+def in_two(n):
+    return n.to_bytes(2, "big").hex()
+
+
+def allocated(side, handle, count):
+    """So many sessions, of which the last is told of."""
+    call(side, "allocate_sessions", handle, in_two(count))
+
+
 # ---- the life
 
 def opening():
@@ -241,6 +250,90 @@ def other_lives():
     passes("hub", "send_close")
 
 
-for part in (opening, sessions, traffic, ends, late, refusals, closing, other_lives):
+# The tables of each end have 65,536 bytes, and a channel has 28 of them: there are places for 2,340.
+MOST = 2339
+LESS = 0x0900
+
+
+def large_opening():
+    title("another life, with large channels: tables of 2,340 places are too short for a channel-max above 2339")
+    call("pad", "dialler", 4096, in_two(0xffff))
+    call("hub", "listener", 16384, in_two(MOST + 1))
+    call("hub", "listener", 16384, in_two(MOST))
+    call("pad", "dialler", 4096, in_two(LESS))
+    header("pad")
+    header("hub")
+    passes("pad", "send_open")
+    passes("hub", "send_open")
+    both("limits")
+
+
+def large_sessions():
+    title("sessions on channels above 255")
+    allocated("hub", 1000, 0x0101)
+    allocated("pad", 3000, 0x0235)
+    session(0x0100, 2000, 0x0101)
+    session(0x0234, 2001, 0x0102)
+    to_hub(0x0100, TRANSFER)
+    to_hub(0x0234, TRANSFER)
+    to_pad(0x0101, FLOW)
+    to_pad(0x0102, DISPOSITION)
+    title("the hub's own channel-max is above the agreed one: it takes channels up to its own, and the pad up to the pad's")
+    call("hub", "receive_frame", 2002, frame(MOST, BEGIN))
+    call("hub", "receive_frame", 0, frame(MOST, TRANSFER))
+    call("hub", "receive_frame", 0, frame(MOST - 1, TRANSFER))
+    for channel in (MOST + 1, 0x1234, 0xffff):
+        call("hub", "receive_frame", 2003, frame(channel, BEGIN))
+    call("pad", "receive_frame", 0, frame(LESS, FLOW))
+    call("pad", "receive_frame", 0, frame(LESS + 1, FLOW))
+    title("Begins for channels that are not taken, and for one above the hub's channel-max")
+    call("pad", "receive_frame", 0, frame(5, begin_for(LESS)))
+    call("pad", "receive_frame", 0, frame(5, begin_for(0xffff)))
+    to_pad(0x0101, begin_for(MOST + 1), refused=True)
+    to_pad(0x0800, begin_for(1), refused=True)
+    call("pad", "channels", 4, in_two(0x00ff))
+    call("hub", "channels", 8, in_two(0x00fe))
+    call("pad", "channels", 4, in_two(0x0232))
+    call("hub", "channels", 4, in_two(0x0232))
+    call("hub", "channels", 4, in_two(MOST - 2))
+
+
+def large_ends():
+    title("sessions on large channels end")
+    to_hub(0x0100, END)
+    to_pad(0x0101, END)
+    to_hub(0x0100, TRANSFER)
+    to_hub(0x0234, TRANSFER)
+    call("hub", "receive_frame", 0, frame(MOST, END))
+    call("hub", "receive_frame", 0, frame(MOST, END))
+    title("large channels again, the latest freed first")
+    for channel in (0x0101, 100, 0x0100):
+        call("hub", "deallocate_session", channel)
+    for channel in (0x0100, LESS, 0xffff):
+        call("hub", "deallocate_session", channel)
+    for handle in range(4000, 4004):
+        call("hub", "allocate_session", handle)
+    title("up to the agreed channel-max")
+    allocated("hub", 5000, LESS + 1 - 0x0105)
+    call("hub", "allocate_session", 4004)
+    to_hub(0x0200, BEGIN, 2004)
+    call("hub", "deallocate_session", LESS)
+    to_hub(0x0200, BEGIN, 2004)
+    to_pad(LESS, begin_for(0x0200))
+    to_pad(LESS, TRANSFER)
+    call("hub", "channels", 4, in_two(LESS - 2))
+    call("pad", "channels", 4, in_two(LESS - 2))
+    title("another life: the pad's Open names no channel-max, which is 65535")
+    call("hub", "listener", 16384, in_two(MOST))
+    call("hub", "send_header")
+    call("hub", "receive_header", 0, AMQP)
+    call("hub", "receive_frame", 0, frame(0, OPEN))
+    call("hub", "send_open")
+    call("hub", "limits")
+    allocated("hub", 1000, MOST + 1)
+    call("hub", "allocate_session", 9000)
+
+
+for part in (opening, sessions, traffic, ends, late, refusals, closing, other_lives, large_opening, large_sessions, large_ends):
     part()
 print("\n".join(lines))

@@ -7,7 +7,7 @@ functions still meet them, names on its lines `theorem: ..` the laws about the c
 - in the edit's log a fact fails in each function on `refused:`, and besides those only the `callers:` are not proved;
 - in the log of an edit with `theorem:` lines just the laws on them fail;
 - no error says only that a name or a place in a proof is gone: such an edit has another shape than the code;
-- every public function of a library is wrong in at least two edits.
+- every public function of a library is wrong in at least two edits, and none has a `requires`: no contract of ours would show one at a function for C.
 An edit of a crate without functions changes a definition, and has no such lines.
 """
 import re
@@ -15,7 +15,7 @@ import sys
 from pathlib import Path
 
 CONSEQUENCE = "was not admitted"  # of an error that only follows from another
-SHAPE = re.compile(rf"that can be named from here|^`\S+-spec`: (?!.*{CONSEQUENCE})")
+SHAPE = re.compile(rf"that can be named from here|has no field|^`\S+-spec`: (?!.*{CONSEQUENCE})")
 
 
 def text(path):
@@ -25,6 +25,12 @@ def text(path):
 def crates():
     lines = (line.split("#")[0] for line in text(Path("crates.txt")).splitlines())
     return [Path("crates", line.split(":")[0].strip()) for line in lines if ":" in line]
+
+
+def with_requires(crate):
+    """The public functions that ask something of their callers."""
+    heads = re.findall(r"^\s*pub (?:extern \"C\" )?fn (\w+)(.*?)^\s*\{$", "".join(map(text, (crate / "src").glob("*.rt"))), re.M | re.S)
+    return {name for name, head in heads if re.search(r"^\s*requires\b", head, re.M)}
 
 
 def public_functions(crate):
@@ -107,6 +113,7 @@ def main():
         if (crate / "src/lib.rt").is_file():
             few = sorted(name for name in public_functions(crate) if times.get(name, 0) < 2)
             faults += [f"{crate}: {name} is wrong in {times.get(name, 0)} edits" for name in few]
+            faults += [f"{crate}: {name} has a `requires`" for name in sorted(with_requires(crate))]
     for fault in faults:
         print(f"refused.py: {fault}")
     print(f"refused.py: {mistakes} wrong functions in {edits} edits" + (f", {len(faults)} faults" if faults else ", all refused"))

@@ -1,9 +1,11 @@
 /*
  * Tests of the library through its C interface. Usage: crossing [all]
- * With `all`, the part on state bytes tries every value of many bytes; without, some of them, which is quick enough for a run under valgrind.
+ * With `all`, the parts in other files try more values and more channels; without, so many that a run under valgrind is quick enough.
  * Prints a line for each part, and `N checks, 0 wrong`. Exits with 1 if anything was wrong.
  */
 #include "rig.h"
+
+#include "judge.h"
 
 #include <stdio.h>
 #include <stdlib.h>
@@ -362,19 +364,6 @@ static void conversation(Tally *t)
 /* ---- Refusals: every number that an event returns. perform() checks that nothing changes.
  * 4, 24, 25 and 27 are never returned: they occur inside an event, and are in the part on outcomes. */
 
-static void refused(Engine *e, Order order, uint8_t number, const char *what)
-{
-    check(e->tally, perform(e, order).refused == number, what);
-}
-
-static Engine opened(Tally *t, int is_listener)
-{
-    Piece peer_open = frame(0, OPEN_OF_H);
-    Engine e = new_engine(t, is_listener, p1());
-    open_with(&e, of(&peer_open));
-    return e;
-}
-
 static Engine awaiting(Tally *t)
 {
     Engine e = opened(t, 1);
@@ -448,30 +437,12 @@ static void texts(Tally *t)
     drop_engine(&end);
 }
 
-static int writes(Event event)
-{
-    return event != ON_RECEIVE_HEADER && event != ON_ALLOCATE && event != ON_DEALLOCATE;
-}
-
-/* An order of each event, whose inputs are good. */
-static Order any_order(Event event, const Piece *header, const Piece *session_frame)
-{
-    Order order = { .event = event };
-    if (event == ON_RECEIVE_HEADER)
-        order.input = of(header);
-    else if (event == ON_INCOMING || event == ON_OUTGOING)
-        order.input = of(session_frame);
-    else if (event == ON_CLOSE_WITH_ERROR)
-        order.input = text("a:b");
-    return order;
-}
-
 static void every_event(Tally *t)
 {
     Engine fresh = new_engine(t, 0, p1()), late = awaiting(t), over = stopped(t), broken = new_engine(t, 0, p1()), unsound = new_engine(t, 0, p1());
     Piece header = hex(HEADER), transfer = frame(0, TRANSFER);
     broken.state.at[0] ^= 1;
-    unsound.state.at[6] = HISPROAT_STATE_OPENED; /* and no channel-max is agreed */
+    unsound.state.at[AT_STATE] = HISPROAT_STATE_OPENED; /* and no channel-max is agreed */
     for (int i = 0; i < EVENTS; i++) {
         Order order = any_order((Event)i, &header, &transfer);
         refused(&broken, order, 8, "bytes that are no engine");
@@ -535,7 +506,7 @@ typedef uint8_t Maker(uint8_t *, size_t, const uint8_t *, size_t, uint32_t, uint
 
 static void makes(Tally *t, Maker *make, Bytes id, uint32_t max_frame_size, uint16_t channel_max, uint8_t returned, const char *what)
 {
-    Slice state = lend_pattern(t, HISPROAT_STATE_SIZE), lent_id = lend(t, id);
+    Slice state = lend_pattern(t, HISPROAT_STATE_SIZE(channel_max)), lent_id = lend(t, id);
     check(t, make(state.at, state.len, lent_id.at, lent_id.len, max_frame_size, channel_max, 1, 0xFFFFFFFF) == returned, what);
     check(t, is_patterned(&state, 0) == (returned != 0), "a refusal leaves the state");
     give_back(t, &state);
@@ -547,15 +518,15 @@ static void settings_with(Tally *t, Maker *make)
     uint8_t long_id[256];
     memset(long_id, 'p', sizeof long_id);
     makes(t, make, none(), 512, 0, 0, "the smallest settings");
-    makes(t, make, (Bytes){ long_id, 255 }, 16384, 255, 0, "the largest settings");
+    makes(t, make, (Bytes){ long_id, 255 }, 16384, 65535, 0, "the largest settings");
     makes(t, make, (Bytes){ long_id, 256 }, 512, 0, 8, "a container-id of 256 bytes");
     makes(t, make, text("pad \xF0\x9F\x8F\x8A"), 512, 0, 0, "a container-id of UTF-8");
     makes(t, make, text("pad \xF0\x9F\x8F"), 512, 0, 8, "a container-id that is cut off");
     makes(t, make, text("pad"), 511, 0, 8, "a max-frame-size of 511");
     makes(t, make, text("pad"), 16385, 0, 8, "a max-frame-size of 16385");
     makes(t, make, text("pad"), 0xFFFFFFFF, 0, 8, "the largest number as max-frame-size");
-    makes(t, make, text("pad"), 512, 256, 8, "a channel-max of 256");
-    makes(t, make, text("pad"), 512, 65535, 8, "a channel-max of 65535");
+    makes(t, make, text("pad"), 512, 255, 0, "a channel-max of 255");
+    makes(t, make, text("pad"), 512, 256, 0, "a channel-max of 256");
 }
 
 static void refusals(Tally *t)
@@ -739,7 +710,7 @@ static void second_close(Tally *t)
     for (size_t i = 0; i < 3; i++) {
         Engine e = new_engine(t, 1, p1());
         open_with(&e, of(&open_of_500));
-        e.state.at[6] = HISPROAT_STATE_CLOSE_RECEIVED;
+        e.state.at[AT_STATE] = HISPROAT_STATE_CLOSE_RECEIVED;
         Said said = incoming_while(&e, of(&close), of(&waiting[i]));
         check(t, said.kind == HISPROAT_KIND_REFUSED && said.detail == 20, "a Close in CloseReceived");
         check(t, same(wire(&e), of(&written[i])), "what is written then");
@@ -954,102 +925,21 @@ static void kept(Tally *t)
     session_not_taken(t);
 }
 
-/* ---- Sizes: states, answers and statuses of exactly the constants' sizes, and a byte more and less */
-
-static void state_size(Tally *t, size_t len, uint8_t returned)
-{
-    Slice state = lend_pattern(t, len), answer = lend_pattern(t, HISPROAT_STATUS_SIZE), id = lend(t, text("p1"));
-    check(t, hisproat_dialler(state.at, state.len, id.at, id.len, 512, 0, 0, 0) == returned, "a dialler in a state of this size");
-    check(t, hisproat_status(state.at, state.len, answer.at, answer.len) == returned, "the status of a state of this size");
-    check(t, is_patterned(&answer, 0) == (returned != 0), "a refusal leaves the answer");
-    check(t, hisproat_listener(state.at, state.len, id.at, id.len, 512, 0, 0, 0) == returned, "a listener in a state of this size");
-    check(t, is_patterned(&state, 0) == (returned != 0), "a refusal leaves the state");
-    give_back(t, &state);
-    give_back(t, &answer);
-    give_back(t, &id);
-}
-
-/* A sound engine's bytes, cut off or with a byte behind them, are refused by each event too, after a small answer or output. */
-static void other_length(Tally *t, size_t len)
-{
-    Engine whole = new_engine(t, 0, p1()), other = { .tally = t, .state = lend_pattern(t, len) };
-    Piece header = hex(HEADER), transfer = frame(0, TRANSFER);
-    memcpy(other.state.at, whole.state.at, len < whole.state.len ? len : whole.state.len);
-    for (int i = 0; i < EVENTS; i++) {
-        Order order = any_order((Event)i, &header, &transfer);
-        refused(&other, order, 8, "an event on a state of another size");
-        order.output_short = 1;
-        refused(&other, order, writes((Event)i) ? 9 : 8, "a small output and a state of another size");
-        order.answer_short = 1;
-        refused(&other, order, 9, "a small answer and a state of another size");
-    }
-    drop_engine(&whole);
-    drop_engine(&other);
-}
-
-static void reader_sizes(Tally *t, size_t status_len, size_t handle_len, uint8_t returned)
-{
-    Engine e = new_engine(t, 0, p1());
-    Slice answer = lend_pattern(t, status_len), at = lend_pattern(t, handle_len), tied = lend_pattern(t, handle_len);
-    check(t, hisproat_status(e.state.at, e.state.len, answer.at, answer.len) == returned, "a status of this size");
-    check(t, hisproat_handle_at(e.state.at, e.state.len, 0, at.at, at.len) == returned, "a handle of this size");
-    check(t, hisproat_tied_handle(e.state.at, e.state.len, 0, tied.at, tied.len) == returned, "a tied handle of this size");
-    check(t, is_patterned(&answer, returned ? 0 : HISPROAT_STATUS_SIZE), "the rest of a status is as it was");
-    check(t, is_patterned(&at, returned ? 0 : HISPROAT_HANDLE_SIZE) && is_patterned(&tied, returned ? 0 : HISPROAT_HANDLE_SIZE), "and of a handle");
-    e.state.at[0] ^= 1;
-    uint8_t broken = returned ? returned : 8; /* 9 comes before 8 */
-    check(t, hisproat_status(e.state.at, e.state.len, answer.at, answer.len) == broken, "a status of no engine");
-    check(t, hisproat_handle_at(e.state.at, e.state.len, 0, at.at, at.len) == broken, "a handle of no engine");
-    check(t, hisproat_tied_handle(e.state.at, e.state.len, 0, tied.at, tied.len) == broken, "a tied handle of no engine");
-    check(t, hisproat_status(e.state.at, e.state.len - 1, answer.at, answer.len) == broken, "a status of a state of another size");
-    give_back(t, &answer);
-    give_back(t, &at);
-    give_back(t, &tied);
-    drop_engine(&e);
-}
-
-/* A larger answer, and a larger output, are taken; what stands behind is left. */
-static void larger(Tally *t)
-{
-    Engine e = new_engine(t, 0, p1());
-    Slice output = lend_pattern(t, HISPROAT_OUTPUT_ROOM + 100), answer = lend_pattern(t, HISPROAT_ANSWER_SIZE + 7);
-    check(t, hisproat_send_header(e.state.at, e.state.len, output.at, output.len, answer.at, answer.len) == 0, "a header into larger slices");
-    check(t, hisproat_written(answer.at) == 8 && is_patterned(&output, 8), "writes 8 bytes");
-    check(t, is_patterned(&answer, HISPROAT_ANSWER_SIZE), "and 42 of the answer");
-    give_back(t, &output);
-    give_back(t, &answer);
-    drop_engine(&e);
-}
-
-static void sizes(Tally *t)
-{
-    t->part = "sizes";
-    state_size(t, HISPROAT_STATE_SIZE, 0);
-    state_size(t, HISPROAT_STATE_SIZE - 1, 8);
-    state_size(t, HISPROAT_STATE_SIZE + 1, 8);
-    state_size(t, 0, 8);
-    other_length(t, HISPROAT_STATE_SIZE - 1);
-    other_length(t, HISPROAT_STATE_SIZE + 1);
-    other_length(t, 0);
-    reader_sizes(t, HISPROAT_STATUS_SIZE, HISPROAT_HANDLE_SIZE, 0);
-    reader_sizes(t, HISPROAT_STATUS_SIZE + 1, HISPROAT_HANDLE_SIZE + 1, 0);
-    reader_sizes(t, HISPROAT_STATUS_SIZE - 1, HISPROAT_HANDLE_SIZE - 1, 9);
-    reader_sizes(t, 0, 0, 9);
-    larger(t);
-}
-
 int main(int argc, char **argv)
 {
     Tally t = { .part = "" }, totals = { .part = "" };
-    void (*const parts[])(Tally *) = { wall, conversation, refusals, outcomes, kept, sizes };
+    void (*const parts[])(Tally *) = { wall, conversation, refusals, outcomes, kept, sizes, fresh_tables };
+    void (*const long_parts[])(Tally *, int) = { state_bytes, altered_tables, many_channels };
     size_t count = sizeof parts / sizeof parts[0];
     for (size_t i = 0; i < count; i++) {
         parts[i](&t);
         part_done(&t, &totals);
     }
-    state_bytes(&t, argc > 1 && strcmp(argv[1], "all") == 0);
-    part_done(&t, &totals);
-    /* the same again, with guard bytes around every lent slice */
+    for (size_t i = 0; i < sizeof long_parts / sizeof long_parts[0]; i++) {
+        long_parts[i](&t, argc > 1 && strcmp(argv[1], "all") == 0);
+        part_done(&t, &totals);
+    }
+    /* the short ones again, with guard bytes around every lent slice */
     t.guard = 64;
     for (size_t i = 0; i < count; i++)
         parts[i](&t);

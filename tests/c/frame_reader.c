@@ -8,7 +8,7 @@
 #include <stdio.h>
 #include <string.h>
 
-enum { LIMIT = 512, CHANNEL_MAX = 7, DAMAGED = 200000 };
+enum { LIMIT = 512, CHANNEL_MAX = 7, STATE = HISPROAT_STATE_SIZE(CHANNEL_MAX), DAMAGED = 200000 };
 
 static unsigned long frames, fine, wrong;
 
@@ -82,18 +82,18 @@ static void open_engine(uint8_t *state)
     static const uint8_t header[] = {'A', 'M', 'Q', 'P', 0, 1, 0, 0}, peers_open[] = {0, 0, 0, 0x11, 2, 0, 0, 0, 0, 0x53, 0x10, 0xC0, 4, 1, 0xA1, 1, 'p'};
     static uint8_t output[HISPROAT_OUTPUT_ROOM];
     uint8_t answer[HISPROAT_ANSWER_SIZE];
-    check(hisproat_listener(state, HISPROAT_STATE_SIZE, header, 1, LIMIT, CHANNEL_MAX, 0, 0) == 0, "a listener");
-    check(hisproat_send_header(state, HISPROAT_STATE_SIZE, output, sizeof output, answer, sizeof answer) == 0, "a header sent");
-    check(hisproat_receive_header(state, HISPROAT_STATE_SIZE, header, sizeof header, answer, sizeof answer) == 0, "a header received");
-    check(hisproat_send_open(state, HISPROAT_STATE_SIZE, output, sizeof output, answer, sizeof answer) == 0, "an Open sent");
-    check(hisproat_on_incoming(state, HISPROAT_STATE_SIZE, peers_open, sizeof peers_open, 0, header, 0, output, sizeof output, answer, sizeof answer) == 0, "an Open received");
+    check(hisproat_listener(state, STATE, header, 1, LIMIT, CHANNEL_MAX, 0, 0) == 0, "a listener");
+    check(hisproat_send_header(state, STATE, output, sizeof output, answer, sizeof answer) == 0, "a header sent");
+    check(hisproat_receive_header(state, STATE, header, sizeof header, answer, sizeof answer) == 0, "a header received");
+    check(hisproat_send_open(state, STATE, output, sizeof output, answer, sizeof answer) == 0, "an Open sent");
+    check(hisproat_on_incoming(state, STATE, peers_open, sizeof peers_open, 0, header, 0, output, sizeof output, answer, sizeof answer) == 0, "an Open received");
 }
 
 /* The reader and an opened engine agree which refusal of the input a frame has, and how many bytes are consumed. */
 static void beside_engine(const uint8_t *opened, const uint8_t *frame, size_t len)
 {
     static uint8_t output[HISPROAT_OUTPUT_ROOM];
-    uint8_t state[HISPROAT_STATE_SIZE], answer[HISPROAT_ANSWER_SIZE], told[HISPROAT_FRAME_SIZE];
+    uint8_t state[STATE], answer[HISPROAT_ANSWER_SIZE], told[HISPROAT_FRAME_SIZE];
     frames++;
     memcpy(state, opened, sizeof state);
     uint8_t returned = hisproat_on_incoming(state, sizeof state, frame, len, 0, frame, 0, output, sizeof output, answer, sizeof answer);
@@ -111,7 +111,7 @@ static void damaged_frames(void)
 {
     static const uint8_t good[] = {0,    0,    0,    0x26, 2,    0,    0, 3, 0, 0x53, 0x14, 0xC0, 0x0C, 0x08, 0x43, 0x43, 0xA0, 0x01, 0x07,
                                    0x43, 0x42, 0x40, 0x41, 0x52, 0x09, 0, 0, 0, 0x53, 0x75, 0xA0, 4,    'p',  'a',  'd',  '1',  0,    0};
-    uint8_t opened[HISPROAT_STATE_SIZE], frame[sizeof good];
+    uint8_t opened[STATE], frame[sizeof good];
     uint64_t seed = 1;
     open_engine(opened);
     for (int round = 0; round < DAMAGED; round++) {

@@ -5,23 +5,28 @@
  * Each call is made twice, on other slices that lie elsewhere and whose output and answer have other old bytes. What is checked of both:
  * - the returned number is the one that the header foretells from the state's bytes and the lengths, or one that it names where the frames decide;
  * - on a refusal no byte of state, output and answer is changed, and no byte of the inputs ever;
- * - else the answer is one that the header allows, its counts lie within the slices, it agrees with the state before and after, only the bytes that it tells of
- *   are written, these are whole frames within the writing limit, and the state is a sound engine with the same settings;
+ * - else the answer is one that the header allows, its counts lie within the slices, only the bytes that it tells of are written, these are whole frames within the
+ *   writing limit, the fixed part is an engine's with the same settings, and the bytes past the tables are as they were;
+ * - where the tables are as an engine leaves them, they are so afterwards, and channels, handles and ties before and after are what the answer tells;
  * - both calls give the same.
  * The first of the two has its slices right before memory that cannot be touched, the second right behind: an access beside a slice ends the program.
  */
-#define _DEFAULT_SOURCE
-#include "state_bytes.c" /* which bytes are a sound engine, and the places in a state */
+#include "rig.h"
 
+#include "fence.h"
+#include "judge.h"
+
+#include <stdio.h>
 #include <stdlib.h>
-#include <sys/mman.h>
+#include <string.h>
 
 enum {
-    LONGEST = 20000, /* bytes of a lent input */
-    MOST_STEPS = 64, /* of a program */
-    SLOT = 1 << 17,  /* bytes that can be lent as one slice */
-    GUARD = 1 << 20, /* bytes around a slot that cannot be touched */
-    DEPENDS = 256    /* a number that is not foretold: the frames decide */
+    LONGEST = 20000,       /* bytes of a lent input */
+    MOST_STEPS = 64,       /* of a program */
+    MOST_CHANNEL = 299,    /* the highest channel-max that there is room for */
+    MOST_STATE = HISPROAT_STATE_SIZE(MOST_CHANNEL) + 64,
+    MOST_OUTPUT = 1 << 16, /* bytes that can be lent as output or answer */
+    DEPENDS = 256          /* a number that is not foretold: the frames, or altered tables, decide */
 };
 
 /* The functions: the events of rig.h, then these. */
@@ -75,7 +80,8 @@ typedef struct {
     size_t state_len;
     size_t output_len;
     size_t answer_len;
-    int sound; /* whether the state's bytes are a sound engine */
+    int sound; /* whether the state's bytes are an engine's */
+    int whole; /* and its tables are as an engine leaves them */
 } Call;
 
 static const Call *current; /* for the report of a fault */
@@ -244,8 +250,7 @@ static void add_field(Draft *d, Tape *t, char type)
         add_raw(d, t, how);
     } else if (type == 'h') {
         add(d, 0x60);
-        add(d, 0);
-        add(d, byte(t));
+        add_number(d, byte(t) + (how < 0xC0 ? 0 : 200u), 2);
     } else if (type == 'u') {
         add_uint(d, t);
     } else {
@@ -300,7 +305,7 @@ static void add_frame(Draft *d, Tape *t)
     if (channel == 0xFF)
         add_raw(d, t, 2);
     else
-        add_number(d, channel % 9, 2);
+        add_number(d, channel < 0xF0 ? channel % 9 : 250u + channel % 16 * 4, 2);
     if (what < 9)
         add_performative(d, t, (uint8_t)(0x10 + what), at);
     else if (what == 10)
@@ -326,9 +331,9 @@ static void damage(Draft *d, Tape *t, unsigned edits, int moves_end)
 /* ---- Engines: two of them, so that each can be given what the other wrote */
 
 typedef struct {
-    uint8_t state[HISPROAT_STATE_SIZE];
-    uint8_t sound[HISPROAT_STATE_SIZE]; /* the last one that stood for an engine */
-    Draft wire;                         /* what was written last */
+    uint8_t state[MOST_STATE];
+    uint8_t sound[MOST_STATE]; /* the last one that stood for an engine */
+    Draft wire;                /* what was written last */
 } Machine;
 
 typedef struct {
@@ -338,6 +343,7 @@ typedef struct {
     /* of the next call: whether its lengths are odd, and how */
     unsigned odd;
     uint32_t lengths[3];
+    unsigned poked; /* what was altered of the state since the last call: 0 nothing, else a place, or a field and its value */
     Draft drafts[3];
 } World;
 
@@ -388,7 +394,7 @@ static Bytes slice(World *w, Tape *t, unsigned which)
 
 /* ---- Lent slices */
 
-typedef enum { LENT_STATE, LENT_IN_1, LENT_IN_2, LENT_IN_3, LENT_OUTPUT, LENT_ANSWER, SLOTS } Lent;
+enum { LENT_STATE, LENT_IN_1, LENT_IN_2, LENT_IN_3, LENT_OUTPUT, LENT_ANSWER, SLOTS };
 
 /* The slices of one call, and what it returned. */
 typedef struct {
@@ -398,47 +404,28 @@ typedef struct {
     uint8_t returned;
 } Round;
 
-static uint8_t *slot(unsigned n)
+static void lend_slice(Round *r, unsigned which, Bytes bytes, unsigned second)
 {
-    static uint8_t *slots[2 * SLOTS];
-    if (slots[n] == NULL) {
-        uint8_t *block = mmap(NULL, SLOT + 2 * GUARD, PROT_NONE, MAP_PRIVATE | MAP_ANONYMOUS, -1, 0);
-        if (block == MAP_FAILED || mprotect(block + GUARD, SLOT, PROT_READ | PROT_WRITE) != 0)
-            exit(2);
-        slots[n] = block + GUARD;
-    }
-    return slots[n];
-}
-
-static void lend_slice(Round *r, Lent which, size_t len, unsigned second)
-{
-    uint8_t *first = slot(which + SLOTS * second);
-    r->at[which] = second ? first : first + SLOT - len;
-    r->len[which] = len;
+    r->at[which] = fenced(which + SLOTS * second, bytes.len, (int)second);
+    r->len[which] = bytes.len;
+    if (bytes.len > 0)
+        memcpy(r->at[which], bytes.at, bytes.len);
 }
 
 static void lend_all(Round *r, const Call *c, const uint8_t *state, unsigned second)
 {
-    static uint8_t olds[2][SLOT];
-    size_t kept = c->state_len < HISPROAT_STATE_SIZE ? c->state_len : HISPROAT_STATE_SIZE;
+    static uint8_t olds[2][MOST_OUTPUT];
     if (olds[second][0] == 0)
-        memset(olds[second], second ? 0xA5 : 0x3C, SLOT);
+        memset(olds[second], second ? 0xA5 : 0x3C, MOST_OUTPUT);
     r->old = olds[second];
-    lend_slice(r, LENT_STATE, c->state_len, second);
-    memset(r->at[LENT_STATE], 0, c->state_len);
-    memcpy(r->at[LENT_STATE], state, kept);
-    for (unsigned i = 0; i < 3; i++) {
-        lend_slice(r, LENT_IN_1 + i, c->in[i].len, second);
-        if (c->in[i].len > 0)
-            memcpy(r->at[LENT_IN_1 + i], c->in[i].at, c->in[i].len);
-    }
-    lend_slice(r, LENT_OUTPUT, c->output_len, second);
-    memcpy(r->at[LENT_OUTPUT], r->old, c->output_len);
-    lend_slice(r, LENT_ANSWER, c->answer_len, second);
-    memcpy(r->at[LENT_ANSWER], r->old, c->answer_len);
+    lend_slice(r, LENT_STATE, (Bytes){ state, c->state_len }, second);
+    for (unsigned i = 0; i < 3; i++)
+        lend_slice(r, LENT_IN_1 + i, c->in[i], second);
+    lend_slice(r, LENT_OUTPUT, (Bytes){ r->old, c->output_len }, second);
+    lend_slice(r, LENT_ANSWER, (Bytes){ r->old, c->answer_len }, second);
 }
 
-static int is_old(const Round *r, Lent which, size_t from)
+static int is_old(const Round *r, unsigned which, size_t from)
 {
     return from >= r->len[which] || memcmp(r->at[which] + from, r->old, r->len[which] - from) == 0;
 }
@@ -524,7 +511,7 @@ static int is_ascii(Bytes text)
 static int are_settings(const Call *c)
 {
     return c->in[0].len <= HISPROAT_MAX_CONTAINER_ID && is_utf8(c->in[0].at, c->in[0].len) && c->number >= HISPROAT_MIN_FRAME_SIZE
-        && c->number <= HISPROAT_MAX_FRAME_SIZE && c->channel_max <= HISPROAT_MAX_CHANNEL_MAX;
+        && c->number <= HISPROAT_MAX_FRAME_SIZE;
 }
 
 static int is_error(const Call *c)
@@ -571,24 +558,7 @@ static int channel_refused(const uint8_t *s)
         return HISPROAT_REFUSED_STOPPED;
     if (!s[AT_AGREED])
         return HISPROAT_REFUSED_NOT_OPENED;
-    return hisproat_number(s + AT_FREE_COUNT, 2) > 0 ? 0 : HISPROAT_REFUSED_NO_CHANNEL_LEFT;
-}
-
-/* The place of an outgoing or incoming channel in a state; NULL where no channel has this number. */
-static const uint8_t *place(const uint8_t *s, size_t table, uint32_t channel)
-{
-    return channel < 256 ? s + table + PLACE * channel : NULL;
-}
-
-static int is_held(const uint8_t *s, size_t table, uint32_t channel)
-{
-    const uint8_t *at = place(s, table, channel);
-    return at != NULL && at[0];
-}
-
-static uint32_t held_handle(const uint8_t *s, size_t table, uint32_t channel)
-{
-    return is_held(s, table, channel) ? (uint32_t)hisproat_number(place(s, table, channel) + 1, 4) : 0;
+    return first_free(s) >= 0 ? 0 : HISPROAT_REFUSED_NO_CHANNEL_LEFT;
 }
 
 /* The refusal of an event that its phase takes and that has all its room. */
@@ -605,9 +575,9 @@ static int event_refused(const Call *c, const uint8_t *s)
     case ON_RECEIVE_HEADER:
         return header_refused(c->in[0], s[AT_STATE]);
     case ON_ALLOCATE:
-        return channel_refused(s);
+        return c->whole ? channel_refused(s) : DEPENDS;
     case ON_DEALLOCATE:
-        return is_held(s, AT_TAKEN, c->number) ? 0 : HISPROAT_REFUSED_CHANNEL_NOT_TAKEN;
+        return c->whole ? taken_by(s, c->number) >= 0 ? 0 : HISPROAT_REFUSED_CHANNEL_NOT_TAKEN : DEPENDS;
     case ON_INCOMING:
         if (frame_refused(c->in[0], hisproat_number(s + AT_READING_LIMIT, 4)) == HISPROAT_REFUSED_BYTES_MISSING)
             return HISPROAT_REFUSED_BYTES_MISSING;
@@ -631,10 +601,8 @@ static int foretold(const Call *c, const uint8_t *s)
     int in_time = c->function == ON_INCOMING || c->function == ON_END_OF_INPUT ? s[AT_PHASE] != HISPROAT_PHASE_STOPPED : s[AT_PHASE] == HISPROAT_PHASE_RUNNING;
     if (c->function < NEW_DIALLER && lacks_room(c))
         return HISPROAT_REFUSED_NO_ROOM;
-    if (c->state_len != HISPROAT_STATE_SIZE)
-        return HISPROAT_REFUSED_BEYOND_LIMITS;
     if (c->function >= NEW_DIALLER)
-        return are_settings(c) ? 0 : HISPROAT_REFUSED_BEYOND_LIMITS;
+        return are_settings(c) && c->state_len >= HISPROAT_STATE_SIZE(c->channel_max) ? 0 : HISPROAT_REFUSED_BEYOND_LIMITS;
     if (!c->sound)
         return HISPROAT_REFUSED_BEYOND_LIMITS;
     if (c->function >= EVENTS)
@@ -707,40 +675,101 @@ static void check_numbers(const uint8_t *a)
         demand(start == 0 && length == 0, "a body, and the kind has none");
 }
 
-/* Channels, handles and ties before and after. */
+/* What an event does with channels and ties, by its answer: which outgoing channel is taken or freed, and which incoming one is tied or untied. -1 for none. */
+typedef struct {
+    int64_t taken, freed, tied, untied;
+    uint32_t handle;
+} Change;
+
+static Change change_of(const Call *c, const uint8_t *a)
+{
+    Change change = { -1, -1, -1, -1, hisproat_handle(a) };
+    int64_t incoming = c->function == ON_INCOMING && c->in[0].len >= 8 ? (int64_t)hisproat_number(c->in[0].at + 6, 2) : -1;
+    uint8_t kind = a[HISPROAT_AT_KIND], detail = a[HISPROAT_AT_DETAIL];
+    if (kind == HISPROAT_KIND_CHANNEL)
+        change.handle = c->number;
+    if (kind == HISPROAT_KIND_CHANNEL || kind == HISPROAT_KIND_BEGAN)
+        change.taken = hisproat_channel(a);
+    if (kind == HISPROAT_KIND_FREED)
+        change.freed = c->number;
+    if (kind == HISPROAT_KIND_BEGAN || (kind == HISPROAT_KIND_FORWARD && detail == HISPROAT_BEGIN))
+        change.tied = incoming;
+    if (kind == HISPROAT_KIND_FORWARD && detail == HISPROAT_END)
+        change.untied = incoming;
+    return change;
+}
+
+/* The numbers to be handed out: without the first where one was taken, with the one that was freed in front, all of them after the peer's Open, and else as before. */
+static void check_hand_out(const uint8_t *a, Change change, const uint8_t *s, const uint8_t *now)
+{
+    static uint16_t before[MOST_CHANNELS + 1], after[MOST_CHANNELS];
+    uint16_t *list = before + 1;
+    int64_t count = hand_out_list(s, list), left = hand_out_list(now, after);
+    if (change.taken >= 0) {
+        demand(count > 0 && list[0] == change.taken, "another channel is taken");
+        list += 1;
+        count -= 1;
+    } else if (change.freed >= 0) {
+        *--list = (uint16_t)change.freed;
+        count += 1;
+    } else if (a[HISPROAT_AT_KIND] == HISPROAT_KIND_OPENED) {
+        for (count = 0; count <= (int64_t)fixed_number(now, AT_AGREED_MAX); count++)
+            list[count] = (uint16_t)count;
+    }
+    demand(count == left && memcmp(list, after, (size_t)count * sizeof list[0]) == 0, "channels will be handed out in another order");
+}
+
+/* Whether a handle is that of a taken channel. */
+static int is_handle(const uint8_t *s, int64_t handle)
+{
+    for (uint32_t k = 0; k < fixed_number(s, AT_USED); k++)
+        if (handle >= 0 && taken_by(s, k) == handle)
+            return 1;
+    return 0;
+}
+
+/* Whether an event may have sent frames of a listener's, and so tied channels. */
+static int may_tie(const Call *c, const uint8_t *s)
+{
+    return s[AT_ROLE] == HISPROAT_ROLE_LISTENER && (c->function == ON_OUTGOING || waiting_frames(c).len > 0);
+}
+
+/* Each channel's handle and tie, before and after. */
 static void check_channels(const Call *c, const uint8_t *a, const uint8_t *s, const uint8_t *now)
 {
-    uint16_t channel = hisproat_channel(a);
-    uint32_t handle = hisproat_handle(a);
-    uint32_t incoming = c->function == ON_INCOMING && c->in[0].len >= 8 ? (uint32_t)hisproat_number(c->in[0].at + 6, 2) : 0;
-    const uint8_t *tied_in = a[HISPROAT_AT_DETAIL] == HISPROAT_BEGIN ? now : s;
-    switch (a[HISPROAT_AT_KIND]) {
-    case HISPROAT_KIND_CHANNEL:
-        demand(channel == s[AT_FREE] && is_held(now, AT_TAKEN, channel) && held_handle(now, AT_TAKEN, channel) == c->number, "another channel is taken");
-        break;
-    case HISPROAT_KIND_FREED:
-        demand(handle == held_handle(s, AT_TAKEN, c->number) && !is_held(now, AT_TAKEN, c->number), "another channel is freed");
-        demand(now[AT_FREE] == c->number, "the channel that was freed is not the next one");
-        break;
-    case HISPROAT_KIND_BEGAN:
-        demand(s[AT_ROLE] == HISPROAT_ROLE_LISTENER && channel == s[AT_FREE] && handle == c->number, "a session has another channel or handle");
-        demand(held_handle(now, AT_TAKEN, channel) == handle, "a session's channel has another handle");
-        demand(is_held(now, AT_TIES, incoming) && held_handle(now, AT_TIES, incoming) == handle, "a session is not tied");
-        break;
-    case HISPROAT_KIND_FORWARD:
-        demand(is_held(tied_in, AT_TIES, incoming) && held_handle(tied_in, AT_TIES, incoming) == handle, "a frame reaches another handle");
-        demand(is_held(now, AT_TIES, incoming) == (a[HISPROAT_AT_DETAIL] != HISPROAT_END), "an End unties, and nothing else does");
-        break;
-    default:
-        demand(memcmp(s + AT_TAKEN, now + AT_TAKEN, AT_TIES - AT_TAKEN) == 0, "channels are taken or freed unasked");
+    Change change = change_of(c, a);
+    demand(change.freed < 0 || taken_by(s, (uint32_t)change.freed) == change.handle, "a channel that is freed had another handle");
+    check_hand_out(a, change, s, now);
+    for (uint32_t k = 0; k <= fixed_number(s, AT_CHANNEL_MAX); k++) {
+        int64_t taken = change.taken == k ? (int64_t)change.handle : change.freed == k ? -1 : taken_by(s, k);
+        int64_t tied = change.tied == k ? (int64_t)change.handle : change.untied == k ? -1 : tied_to(s, k);
+        demand(taken_by(now, k) == taken, "a channel has another handle");
+        demand(tied_to(now, k) == tied || (may_tie(c, s) && is_handle(s, tied_to(now, k))), "a channel is tied to another handle");
     }
 }
 
-static void check_state(const uint8_t *a, const uint8_t *s, const uint8_t *now)
+/* A frame that is handed on came for a session: its channel was tied, or is tied by it to the handle of a taken channel. */
+static void check_forward(const Call *c, const uint8_t *a, const uint8_t *s)
+{
+    uint32_t incoming = c->in[0].len >= 8 ? (uint32_t)hisproat_number(c->in[0].at + 6, 2) : 0;
+    if (a[HISPROAT_AT_KIND] == HISPROAT_KIND_BEGAN)
+        demand(s[AT_ROLE] == HISPROAT_ROLE_LISTENER && hisproat_handle(a) == c->number, "a session has another handle");
+    if (a[HISPROAT_AT_KIND] == HISPROAT_KIND_FORWARD && a[HISPROAT_AT_DETAIL] == HISPROAT_BEGIN)
+        demand(is_handle(s, hisproat_handle(a)), "a session is begun that nobody has");
+    else if (a[HISPROAT_AT_KIND] == HISPROAT_KIND_FORWARD)
+        demand(tied_to(s, incoming) == hisproat_handle(a), "a frame reaches another handle");
+}
+
+static int same_settings(const uint8_t *s, const uint8_t *now)
+{
+    return memcmp(s, now, AT_MOVING) == 0 && memcmp(s + AT_ID_LENGTH, now + AT_ID_LENGTH, AT_TABLES - AT_ID_LENGTH) == 0;
+}
+
+static void check_state(const Call *c, const uint8_t *a, const uint8_t *s, const uint8_t *now)
 {
     int stopped = now[AT_PHASE] == HISPROAT_PHASE_STOPPED;
-    demand(stands(now), "the state is no sound engine any more");
-    demand(s[AT_ROLE] == now[AT_ROLE] && memcmp(s + AT_MAX_FRAME_SIZE, now + AT_MAX_FRAME_SIZE, AT_AGREED - AT_MAX_FRAME_SIZE) == 0, "settings are changed");
+    demand(stands(now, c->state_len), "the state is no engine any more");
+    demand(same_settings(s, now), "settings are changed");
     demand(now[AT_PHASE] >= s[AT_PHASE], "the phase goes back");
     demand(a[HISPROAT_AT_STOPPED] == stopped, "the answer and the state differ about the stop");
     demand(a[HISPROAT_AT_OUTCOME] == (stopped ? now[AT_OUTCOME] : 0), "the answer and the state differ about the outcome");
@@ -793,48 +822,52 @@ static void check_event(const Round *r, const Call *c, const uint8_t *s)
     check_consumed(r, c);
     check_numbers(a);
     check_written(r, c, s);
-    check_state(a, s, now);
-    check_channels(c, a, s, now);
+    check_state(c, a, s, now);
     check_error_path(r, c, s);
+    if (!c->whole)
+        return;
+    demand(are_shared(now), "the tables are not as an engine leaves them any more");
+    check_channels(c, a, s, now);
+    check_forward(c, a, s);
 }
 
-/* A reader's answer, byte for byte from the state's bytes. */
+/* A reader's answer, byte for byte from the state's bytes, whoever wrote them. */
 static void check_reader(const Round *r, const Call *c, const uint8_t *s)
 {
     uint8_t told[HISPROAT_STATUS_SIZE] = { s[AT_ROLE], s[AT_PHASE], s[AT_OUTCOME], s[AT_STATE] };
-    size_t table = c->function == READ_HANDLE_AT ? AT_TAKEN : AT_TIES;
-    unsigned taken = 0;
+    uint32_t taken = fixed_number(s, AT_USED) - fixed_number(s, AT_FREED), channel = c->number & 0xFFFF;
     if (c->function == READ_STATUS) {
         memcpy(told + HISPROAT_STATUS_AT_READING_LIMIT, s + AT_READING_LIMIT, 8);
-        memcpy(told + HISPROAT_STATUS_AT_AGREED, s + AT_AGREED, 2);
-        for (uint32_t i = 0; i < 256; i++)
-            taken += (unsigned)is_held(s, AT_TAKEN, i);
-        told[HISPROAT_STATUS_AT_TAKEN] = (uint8_t)(taken >> 8);
-        told[HISPROAT_STATUS_AT_TAKEN + 1] = (uint8_t)taken;
+        told[HISPROAT_STATUS_AT_AGREED] = s[AT_AGREED];
+        memcpy(told + HISPROAT_STATUS_AT_CHANNEL_MAX, s + AT_AGREED_MAX, 2);
+        for (unsigned i = 0; i < 4; i++)
+            told[HISPROAT_STATUS_AT_TAKEN + i] = (uint8_t)(taken >> 8 * (3 - i));
     } else {
-        memset(told, 0, sizeof told);
-        if (is_held(s, table, c->number & 0xFFFF))
-            memcpy(told, place(s, table, c->number & 0xFFFF), PLACE);
+        int64_t handle = c->function == READ_HANDLE_AT ? taken_by(s, channel) : tied_to(s, channel);
+        told[HISPROAT_HANDLE_AT_FOUND] = handle >= 0;
+        for (unsigned i = 0; i < 4; i++)
+            told[HISPROAT_HANDLE_AT_NUMBER + i] = (uint8_t)(handle < 0 ? 0 : handle >> 8 * (3 - i));
     }
     demand(memcmp(r->at[LENT_ANSWER], told, ABOUT[c->function].answer_size) == 0, "a reader tells another thing than the state's bytes");
-    demand(memcmp(r->at[LENT_STATE], s, HISPROAT_STATE_SIZE) == 0, "a reader changes the state");
+    demand(memcmp(r->at[LENT_STATE], s, c->state_len) == 0, "a reader changes the state");
 }
 
-/* A new engine's bytes: the settings, and nothing else. */
+/* A new engine: the settings, and nothing else. Nothing of what stood there is believed. */
 static void check_new(const Round *r, const Call *c)
 {
     const uint8_t *s = r->at[LENT_STATE];
-    demand(stands(s) && all_zero(s + AT_AGREED, HISPROAT_STATE_SIZE - AT_AGREED) && s[AT_STATE] == HISPROAT_STATE_START, "no new engine");
+    demand(stands(s, c->state_len) && s[AT_STATE] == HISPROAT_STATE_START && !s[AT_AGREED], "no new engine");
     demand(s[AT_PHASE] == HISPROAT_PHASE_RUNNING && s[AT_ROLE] == (c->function == NEW_LISTENER), "another role or phase");
-    demand(hisproat_number(s + AT_MAX_FRAME_SIZE, 4) == c->number && s[AT_CHANNEL_MAX] == c->channel_max, "other settings");
-    demand(s[AT_IDLE] == (c->flag != 0) && hisproat_number(s + AT_IDLE + 1, 4) == (c->flag ? c->idle : 0), "another idle-time-out");
-    demand(s[AT_ID_LENGTH] == c->in[0].len && memcmp(s + AT_ID, c->in[0].at, c->in[0].len) == 0, "another container-id");
+    demand(fixed_number(s, AT_MAX_FRAME_SIZE) == c->number && fixed_number(s, AT_CHANNEL_MAX) == c->channel_max, "other settings");
+    demand(s[AT_HAS_IDLE] == (c->flag != 0) && (!c->flag || fixed_number(s, AT_IDLE) == c->idle), "another idle-time-out");
+    demand(fixed_number(s, AT_ID_LENGTH) == c->in[0].len && memcmp(s + AT_ID, c->in[0].at, c->in[0].len) == 0, "another container-id");
+    for (uint32_t k = 0; k <= c->channel_max; k++)
+        demand(taken_by(s, k) < 0 && tied_to(s, k) < 0, "a new engine has a channel");
 }
 
 /* What is checked of the lent bytes, of both calls. `before` are the bytes that the state had. */
 static void check_bytes(const Round *r, const Call *c, const uint8_t *before)
 {
-    size_t kept = c->state_len < HISPROAT_STATE_SIZE ? c->state_len : HISPROAT_STATE_SIZE;
     for (unsigned i = 0; i < 3; i++)
         demand(c->in[i].len == 0 || memcmp(r->at[LENT_IN_1 + i], c->in[i].at, c->in[i].len) == 0, "an input is changed");
     if (r->returned == 0) {
@@ -842,9 +875,11 @@ static void check_bytes(const Round *r, const Call *c, const uint8_t *before)
         demand(written <= r->len[LENT_OUTPUT], "written is more than the output has");
         demand(is_old(r, LENT_OUTPUT, written), "the output is changed after what was written");
         demand(is_old(r, LENT_ANSWER, ABOUT[c->function].answer_size), "the answer is changed after its size");
+        size_t end = needed(r->at[LENT_STATE], c->state_len);
+        demand(end <= c->state_len && memcmp(r->at[LENT_STATE] + end, before + end, c->state_len - end) == 0, "bytes past the tables are changed");
         return;
     }
-    demand(memcmp(r->at[LENT_STATE], before, kept) == 0 && all_zero(r->at[LENT_STATE] + kept, c->state_len - kept), "a refusal changes the state");
+    demand(memcmp(r->at[LENT_STATE], before, c->state_len) == 0, "a refusal changes the state");
     demand(is_old(r, LENT_OUTPUT, 0), "a refusal changes the output");
     demand(is_old(r, LENT_ANSWER, 0), "a refusal changes the answer");
 }
@@ -878,16 +913,24 @@ static void check_meaning(const Round *r, const Call *c, const uint8_t *before)
         check_new(r, c);
 }
 
-/* ---- What the fuzzer is told besides the edges: which function had which result, by role and state */
+/* ---- What the fuzzer is told besides the edges: which function had which result, by role and state, with whole and with altered tables; what a call returned after each
+ * alteration; and whether a function returned 0 for a state that is a byte too short, as long as it must be, and longer. */
 
-enum { RESULTS = 96 };
+enum { RESULTS = 96, PLACES_POKED = 32, FIELD_VALUES = 17, POKES = PLACES_POKED + FIELDS * FIELD_VALUES };
 
-__attribute__((used, section("__libfuzzer_extra_counters"))) static uint8_t seen[FUNCTIONS][2][14][RESULTS];
+static struct {
+    uint8_t results[FUNCTIONS][2][14][RESULTS][2];
+    uint8_t pokes[POKES][3];
+    uint8_t lengths[FUNCTIONS][4][2];
+} seen __attribute__((used, section("__libfuzzer_extra_counters")));
 
-static void note(const Round *r, const Call *c, const uint8_t *s)
+static void note(const World *w, const Round *r, const Call *c, const uint8_t *s)
 {
     const uint8_t *a = r->at[LENT_ANSWER];
     unsigned result = r->returned;
+    size_t size = c->function >= NEW_DIALLER ? HISPROAT_STATE_SIZE(c->channel_max) : needed(s, MOST_STATE);
+    seen.pokes[w->poked][result == 0 ? 0 : result == 8 ? 1 : 2] = 1;
+    seen.lengths[c->function][c->state_len + 1 == size ? 0 : c->state_len == size ? 1 : c->state_len > size ? 2 : 3][result == 0] = 1;
     if (s[AT_ROLE] > 1 || s[AT_STATE] > 13)
         return;
     if (result == 0 && c->function < EVENTS) {
@@ -900,21 +943,35 @@ static void note(const Round *r, const Call *c, const uint8_t *s)
         else if (kind == HISPROAT_KIND_CLOSED)
             result = 76u + a[HISPROAT_AT_OUTCOME];
     }
-    seen[c->function][s[AT_ROLE]][s[AT_STATE]][result] = 1;
+    seen.results[c->function][s[AT_ROLE]][s[AT_STATE]][result][c->whole] = 1;
 }
 
 /* ---- Steps */
+
+/* How long the state is that a call is lent: as long as it must be, or some bytes longer; or any length; or one about the size. */
+static size_t state_length(const World *w, const Call *c)
+{
+    size_t size = c->function >= NEW_DIALLER ? HISPROAT_STATE_SIZE(c->channel_max) : needed(w->engines[w->turn].state, MOST_STATE);
+    uint32_t n = w->lengths[0];
+    if (!(w->odd & 1))
+        size += w->calls % 3 == 2 ? 40 : 0;
+    else if (n < 0x4000)
+        size = n;
+    else
+        size = size + n % 64 - 32;
+    return size < MOST_STATE ? size : MOST_STATE;
+}
 
 static void make(World *w, Call c)
 {
     Machine *m = &w->engines[w->turn];
     Round first, second;
-    c.state_len = w->odd & 1 ? w->lengths[0] % 4096 : HISPROAT_STATE_SIZE;
+    c.state_len = state_length(w, &c);
     c.output_len = ABOUT[c.function].has_output ? hisproat_room(waiting_frames(&c).len) + (w->odd & 2 ? w->lengths[1] % 512 : 256) - 256 : 0;
     c.answer_len = w->odd & 4 ? w->lengths[2] % 64 : ABOUT[c.function].answer_size + w->calls % 3;
-    c.sound = stands(m->state);
+    c.sound = stands(m->state, c.state_len);
+    c.whole = c.sound && are_shared(m->state);
     w->calls += 1;
-    w->odd = 0;
     current = &c;
     lend_all(&first, &c, m->state, 0);
     lend_all(&second, &c, m->state, 1);
@@ -924,15 +981,17 @@ static void make(World *w, Call c)
     check_bytes(&second, &c, m->state);
     check_same(&first, &second, &c);
     check_meaning(&first, &c, m->state);
-    note(&first, &c, m->state);
+    note(w, &first, &c, m->state);
+    w->odd = 0;
+    w->poked = 0;
     if (first.returned == 0)
-        memcpy(m->state, first.at[LENT_STATE], HISPROAT_STATE_SIZE);
+        memcpy(m->state, first.at[LENT_STATE], c.state_len);
     if (first.returned == 0 && c.function < EVENTS) {
         m->wire.len = 0;
         add_bytes(&m->wire, (Bytes){ first.at[LENT_OUTPUT], hisproat_written(first.at[LENT_ANSWER]) });
     }
     /* bytes that are no engine are tried once */
-    if (c.sound || first.returned == 0)
+    if (stands(m->state, MOST_STATE))
         memcpy(m->sound, m->state, sizeof m->sound);
     else
         memcpy(m->state, m->sound, sizeof m->state);
@@ -981,35 +1040,68 @@ static void call_step(World *w, Tape *t, unsigned function)
     make(w, c);
 }
 
-/* An engine that is open, or on the way there: the low bits of the first byte say how far, the next one the role. */
+/* All channels up to this one are taken, as if each had been asked for. */
+static void take_up_to(uint8_t *state, uint32_t channel)
+{
+    for (uint32_t k = 0; k <= channel; k++) {
+        put_field(state, k, LINK, TAKEN_LINK);
+        put_field(state, k, HANDLE, 1000 + k);
+    }
+    put_fixed_number(state, AT_USED, channel + 1);
+}
+
+/* An engine that is open, or on the way there: the low bits of the first byte say how far, the next one the role. Where the byte is high, it has many channels, most of them
+ * taken or all. */
 static void open_step(World *w, Tape *t)
 {
     static const uint8_t OPEN[] = { 0, 0, 0, 0x1B, 2, 0, 0, 0, 0, 0x53, 0x10, 0xC0, 0x0E, 4, 0xA1, 2, 'p', '1', 0x40, 0x70, 0, 0, 0x04, 0, 0x60, 0, 3 };
+    static const uint8_t OPEN_OF_MANY[] = { 0, 0, 0, 0x11, 2, 0, 0, 0, 0, 0x53, 0x10, 0xC0, 0x04, 1, 0xA1, 1, 'p' };
     uint8_t how = byte(t);
-    unsigned stages = how & 7;
+    unsigned stages = how & 7, many = how >= 0xE0;
     w->odd = 0;
-    make(w, new_engine_call(how & 8 ? NEW_LISTENER : NEW_DIALLER, (Bytes){ .at = (const uint8_t *)"hub", .len = 3 }, 1024, 7));
+    make(w, new_engine_call(how & 8 ? NEW_LISTENER : NEW_DIALLER, (Bytes){ .at = (const uint8_t *)"hub", .len = 3 }, 1024, many ? MOST_CHANNEL : 7));
     const Call WAY[] = {
         { .function = ON_SEND_HEADER },
         { .function = ON_RECEIVE_HEADER, .in = { { AMQP_HEADER, sizeof AMQP_HEADER } } },
         { .function = ON_SEND_OPEN },
-        { .function = ON_INCOMING, .in = { { OPEN, sizeof OPEN } } },
+        { .function = ON_INCOMING, .in = { many ? (Bytes){ OPEN_OF_MANY, sizeof OPEN_OF_MANY } : (Bytes){ OPEN, sizeof OPEN } } },
         { .function = ON_ALLOCATE, .number = 7 },
     };
     for (unsigned i = 0; i < sizeof WAY / sizeof WAY[0] && stages + i < 8; i++)
         make(w, WAY[i]);
+    if (many && w->engines[w->turn].state[AT_AGREED])
+        take_up_to(w->engines[w->turn].state, how & 16 ? MOST_CHANNEL : 253);
 }
 
-/* A byte of the state is altered: one of the front, of the numbers, or any. */
+/* A field of the tables is altered: one of a low channel, of the highest, or of any. Returns the number of what was done. */
+static unsigned poke_field(uint8_t *state, Tape *t)
+{
+    static const uint32_t VALUES[] = { 0, 1, 2, 3, 4, 7, 8, 255, 256, 299, 300, 65535, 65536, 65537, 0x80000000, UINT32_MAX };
+    uint32_t channel = byte(t), most = fixed_number(state, AT_CHANNEL_MAX);
+    unsigned field = byte(t), value = byte(t);
+    channel = channel < 0x80 ? channel % 9 : channel < 0xC0 ? most : channel - 0xC0 + 240u;
+    if (channel <= MOST_CHANNEL)
+        put_field(state, channel, field % FIELDS, value < 0xF0 ? VALUES[value % 16] : number(t, 4));
+    return PLACES_POKED + field % FIELDS * FIELD_VALUES + (value < 0xF0 ? value % 16 : 16);
+}
+
+/* A byte of the state is altered: one of the fixed part, a field of the tables, or any. */
 static void poke_step(World *w, Tape *t)
 {
-    static const uint16_t PLACES[] = { 0, AT_PHASE, AT_OUTCOME, AT_STATE, AT_ROLE, AT_READING_LIMIT + 2, AT_READING_LIMIT + 3, AT_WRITING_LIMIT + 2, AT_WRITING_LIMIT + 3,
-                                       AT_MAX_FRAME_SIZE + 2, AT_CHANNEL_MAX, AT_IDLE, AT_IDLE + 4, AT_ID_LENGTH, AT_ID, AT_ID + 3, AT_AGREED, AT_AGREED_MAX,
-                                       AT_FREE_COUNT, AT_FREE_COUNT + 1, AT_FREE, AT_FREE + 1, AT_FREE + 2, AT_TAKEN, AT_TAKEN + 4, AT_TAKEN + 5, AT_TIES, AT_TIES + 9 };
+    static const uint16_t PLACES[] = { AT_VERSION + 3, AT_PHASE, AT_OUTCOME, AT_STATE, AT_ROLE, AT_READING_LIMIT + 2, AT_READING_LIMIT + 3, AT_WRITING_LIMIT + 2,
+                                       AT_WRITING_LIMIT + 3, AT_MAX_FRAME_SIZE + 2, AT_CHANNEL_MAX, AT_CHANNEL_MAX + 1, AT_HAS_IDLE, AT_IDLE + 3, AT_ID_LENGTH,
+                                       AT_ID_LENGTH + 1, AT_ID, AT_ID + 3, AT_AGREED, AT_AGREED_MAX, AT_AGREED_MAX + 1, AT_USED + 1, AT_USED + 2, AT_USED + 3,
+                                       AT_HEAD + 2, AT_HEAD + 3, AT_FREED + 2, AT_FREED + 3 };
     uint8_t *state = w->engines[w->turn].state;
     uint8_t which = byte(t);
-    size_t at = which < 128 ? PLACES[which % (sizeof PLACES / sizeof PLACES[0])] : number(t, 2) % HISPROAT_STATE_SIZE;
-    for (unsigned n = which >= 192 ? byte(t) : 1; n > 0 && at < HISPROAT_STATE_SIZE; n--)
+    unsigned place = which % (sizeof PLACES / sizeof PLACES[0]);
+    w->poked = which < 128 ? 1 + place : PLACES_POKED - 1;
+    if (which >= 128 && which < 192) {
+        w->poked = poke_field(state, t);
+        return;
+    }
+    size_t at = which < 128 ? PLACES[place] : number(t, 2) % MOST_STATE;
+    for (unsigned n = which >= 192 ? byte(t) : 1; n > 0 && at < MOST_STATE; n--)
         state[at++] = byte(t);
 }
 
@@ -1033,7 +1125,7 @@ static void step(World *w, Tape *t)
     else if (what == OTHER_ENGINE)
         w->turn = 1 - w->turn;
     else if (what == COPY_ENGINE)
-        memcpy(w->engines[1 - w->turn].state, w->engines[w->turn].state, HISPROAT_STATE_SIZE);
+        memcpy(w->engines[1 - w->turn].state, w->engines[w->turn].state, MOST_STATE);
     else if (what == OPEN_ENGINE)
         open_step(w, t);
     else
@@ -1047,10 +1139,11 @@ int LLVMFuzzerTestOneInput(const uint8_t *data, size_t size)
     w.turn = 0;
     w.calls = 0;
     w.odd = 0;
+    w.poked = 0;
     for (unsigned i = 0; i < 2; i++) {
         Machine *m = &w.engines[1 - i];
-        memset(m->state, 0, sizeof m->state);
-        memset(m->sound, 0, sizeof m->sound);
+        memset(m->state, 0x5A, sizeof m->state);
+        memset(m->sound, 0x5A, sizeof m->sound);
         m->wire.len = 0;
     }
     for (unsigned i = 0; i < MOST_STEPS && t.left > 0; i++)

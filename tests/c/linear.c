@@ -89,8 +89,8 @@ static void finish(Frame *f, size_t list)
 
 typedef enum { READER, ENGINE, TO_SEND, WAYS } Way;
 
-static uint8_t opened[HISPROAT_STATE_SIZE]; /* an engine with a session on channel 0 */
-static uint8_t state[HISPROAT_STATE_SIZE], output[HISPROAT_OUTPUT_ROOM], answer[HISPROAT_ANSWER_SIZE];
+static uint8_t opened[HISPROAT_STATE_SIZE(CHANNEL_MAX)]; /* an engine with a session on channel 0 */
+static uint8_t state[sizeof opened], output[HISPROAT_OUTPUT_ROOM], answer[HISPROAT_ANSWER_SIZE];
 static int is_slow;
 
 static uint8_t came(const uint8_t *frame, size_t len)

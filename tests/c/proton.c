@@ -16,7 +16,7 @@
 #include "hisproat.h"
 #include "proton.h"
 
-enum { INCOMING = 5, OUTGOING = 3, TAKEN = 255, FIRST_HANDLE = 1000, SPARE = 77 };
+enum { INCOMING = 5, OUTGOING = 3, TAKEN = CHANNEL_MAX, FIRST_HANDLE = 1000, SPARE = 77 };
 
 /* ---- Rules: on what the two may differ, who is right by Part 1, and the shortest body that shows it. */
 
@@ -50,9 +50,9 @@ static const Rule rules[RULES] = {
 };
 
 typedef struct {
-    uint8_t opened[HISPROAT_STATE_SIZE]; /* a listener in Opened: channels 0 to 254 taken, incoming channel 5 tied to the first handle */
-    uint8_t asking[HISPROAT_STATE_SIZE]; /* the same in OpenSent */
-    uint8_t state[HISPROAT_STATE_SIZE], answer[HISPROAT_ANSWER_SIZE];
+    uint8_t opened[HISPROAT_STATE_SIZE(CHANNEL_MAX)]; /* a listener in Opened: all channels but the last taken, incoming channel 5 tied to the first handle */
+    uint8_t asking[HISPROAT_STATE_SIZE(CHANNEL_MAX)]; /* the same in OpenSent */
+    uint8_t state[HISPROAT_STATE_SIZE(CHANNEL_MAX)], answer[HISPROAT_ANSWER_SIZE];
     uint8_t frame[8 + LONGEST], output[HISPROAT_OUTPUT_ROOM + 2 * (8 + LONGEST)];
     size_t frame_len;
     pn_data_t *made, *tree, *other;
@@ -182,7 +182,7 @@ static int tells_open(Run *run)
     uint64_t idle = to_field(run->tree, 4) == PN_NULL ? 0 : pn_data_get_uint(run->tree);
     uint64_t limit = size < 512 ? 512 : size > 16384 ? 16384 : size;
     return hisproat_number(status + HISPROAT_STATUS_AT_WRITING_LIMIT, 4) == limit &&
-           status[HISPROAT_STATUS_AT_CHANNEL_MAX] == (channels < 255 ? channels : 255) && hisproat_handle(run->answer) == idle;
+           hisproat_number(status + HISPROAT_STATUS_AT_CHANNEL_MAX, 2) == (channels < CHANNEL_MAX ? channels : CHANNEL_MAX) && hisproat_handle(run->answer) == idle;
 }
 
 static int tells(Run *run, uint8_t code)
@@ -290,7 +290,7 @@ static void compare_written(Run *run, const Body *body, Stated stated, size_t en
         run->named++;
         return;
     }
-    if (stated.code == BEGIN && to_field(run->tree, 0) != PN_NULL && pn_data_get_ushort(run->tree) > 255) {
+    if (stated.code == BEGIN && to_field(run->tree, 0) != PN_NULL && pn_data_get_ushort(run->tree) > CHANNEL_MAX) {
         expect(run, refused == HISPROAT_REFUSED_CHANNEL_TOO_HIGH, "the port sends a remote-channel above its channel-max", body->at, body->len);
         return;
     }
@@ -631,14 +631,15 @@ static void put_text(pn_data_t *tree, const uint8_t *at, size_t len, int is_symb
 
 static void own_open(Run *run)
 {
+    static uint8_t state[HISPROAT_STATE_SIZE(HISPROAT_MAX_CHANNEL_MAX)];
     uint8_t id[HISPROAT_MAX_CONTAINER_ID], has_idle = below(&run->chance, 2) == 0;
     size_t len = below(&run->chance, sizeof id + 1);
     uint32_t size = 512 + below(&run->chance, 15873), idle = below(&run->chance, 2) == 0 ? below(&run->chance, 300) : below(&run->chance, 0xFFFFFFFF);
-    uint16_t channels = (uint16_t)below(&run->chance, 256);
+    uint16_t channels = (uint16_t)below(&run->chance, 65536);
     text_by_chance(run, id, len);
-    hisproat_dialler(run->state, sizeof run->state, id, len, size, channels, has_idle, idle);
-    hisproat_send_header(run->state, sizeof run->state, run->output, sizeof run->output, run->answer, sizeof run->answer);
-    uint8_t refused = hisproat_send_open(run->state, sizeof run->state, run->output, sizeof run->output, run->answer, sizeof run->answer);
+    hisproat_dialler(state, sizeof state, id, len, size, channels, has_idle, idle);
+    hisproat_send_header(state, sizeof state, run->output, sizeof run->output, run->answer, sizeof run->answer);
+    uint8_t refused = hisproat_send_open(state, sizeof state, run->output, sizeof run->output, run->answer, sizeof run->answer);
     expect(run, refused == 0, "no Open is sent", id, len);
     pn_data_clear(run->made);
     put_composite(run->made, OPEN);
@@ -689,9 +690,9 @@ static void own_frames(Run *run)
 static int set_up(Run *run)
 {
     static const uint8_t header[] = {0x41, 0x4D, 0x51, 0x50, 0, 1, 0, 0};
-    static const uint8_t open[] = {0, 0x53, OPEN, 0xC0, 12, 4, 0xA1, 0, 0x40, 0x70, 0, 0, 0x40, 0, 0x60, 0, 0xFF};
+    static const uint8_t open[] = {0, 0x53, OPEN, 0xC0, 12, 4, 0xA1, 0, 0x40, 0x70, 0, 0, 0x40, 0, 0x60, CHANNEL_MAX >> 8, CHANNEL_MAX & 0xFF};
     static const uint8_t begin[] = {0, 0x53, BEGIN, 0xC0, 7, 4, 0x60, 0, 0, 0x43, 0x43, 0x43};
-    uint8_t wrong = hisproat_listener(run->state, sizeof run->state, none, 0, 16384, 255, 0, 0);
+    uint8_t wrong = hisproat_listener(run->state, sizeof run->state, none, 0, 16384, CHANNEL_MAX, 0, 0);
     wrong |= hisproat_receive_header(run->state, sizeof run->state, header, sizeof header, run->answer, sizeof run->answer);
     wrong |= hisproat_send_header(run->state, sizeof run->state, run->output, sizeof run->output, run->answer, sizeof run->answer);
     wrong |= hisproat_send_open(run->state, sizeof run->state, run->output, sizeof run->output, run->answer, sizeof run->answer);

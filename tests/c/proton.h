@@ -18,6 +18,10 @@ typedef struct {
 /* A number under n. */
 uint32_t below(Chance *chance, uint32_t n);
 
+/* ---- The channel-max that the engines of this comparison have. Ushorts of the performatives lie mostly about it. */
+
+enum { CHANNEL_MAX = 299 };
+
 /* ---- Bytes of a value or a body. `full` is 1 where more was to be written than there is room for. */
 
 enum { LONGEST = 16000 };

@@ -276,7 +276,7 @@ static void put_field(pn_data_t *tree, Chance *chance, char letter)
     switch (letter | 0x20) {
     case 's': put_atom(tree, chance, PN_STRING); return;
     case 'u': put_atom(tree, chance, PN_UINT); return;
-    case 'h': pn_data_put_ushort(tree, (uint16_t)(below(chance, 8) == 0 ? some_number(chance) : below(chance, 257))); return;
+    case 'h': pn_data_put_ushort(tree, (uint16_t)(below(chance, 8) == 0 ? some_number(chance) : below(chance, CHANNEL_MAX + 2))); return;
     case 'e': put_error(tree, chance); return;
     default: put_value(tree, chance, LEVELS); return;
     }

@@ -19,7 +19,8 @@ struct bytes {
 };
 
 struct run {
-    uint8_t state[HISPROAT_STATE_SIZE];
+    uint8_t state[HISPROAT_STATE_SIZE(HISPROAT_MAX_CHANNEL_MAX)];
+    size_t state_length; /* as many of them as the list's channel-max asks for */
     uint8_t answer[HISPROAT_ANSWER_SIZE];
     struct bytes output;
     uint8_t refused;
@@ -76,9 +77,10 @@ static void begin(struct run *run, char *words[MOST_WORDS])
     uint32_t size = number(words[3]), idle = number(words[6]);
     uint16_t most = (uint16_t)number(words[4]);
     uint8_t has = (uint8_t)number(words[5]);
+    run->state_length = HISPROAT_STATE_SIZE(most);
     uint8_t refused = number(words[1]) == HISPROAT_ROLE_DIALLER
-                          ? hisproat_dialler(run->state, sizeof run->state, id.at, id.length, size, most, has, idle)
-                          : hisproat_listener(run->state, sizeof run->state, id.at, id.length, size, most, has, idle);
+                          ? hisproat_dialler(run->state, run->state_length, id.at, id.length, size, most, has, idle)
+                          : hisproat_listener(run->state, run->state_length, id.at, id.length, size, most, has, idle);
     if (refused != 0)
         fail(run, "settings are refused");
     free(id.at);
@@ -89,7 +91,7 @@ static void begin(struct run *run, char *words[MOST_WORDS])
 static uint8_t call(struct run *run, char *words[MOST_WORDS], struct bytes a, struct bytes b, struct bytes c)
 {
     uint8_t *s = run->state, *w = run->answer, *o = run->output.at;
-    const size_t n = sizeof run->state, wn = sizeof run->answer, on = run->output.length;
+    const size_t n = run->state_length, wn = sizeof run->answer, on = run->output.length;
     const char *name = words[1];
     if (strcmp(name, "send-header") == 0)
         return hisproat_send_header(s, n, o, on, w, wn);
@@ -184,10 +186,10 @@ static void stands(struct run *run, char *words[MOST_WORDS])
     } places[] = {
         {HISPROAT_STATUS_AT_PHASE, 1},         {HISPROAT_STATUS_AT_OUTCOME, 1},       {HISPROAT_STATUS_AT_STATE, 1},
         {HISPROAT_STATUS_AT_READING_LIMIT, 4}, {HISPROAT_STATUS_AT_WRITING_LIMIT, 4}, {HISPROAT_STATUS_AT_AGREED, 1},
-        {HISPROAT_STATUS_AT_CHANNEL_MAX, 1},   {HISPROAT_STATUS_AT_TAKEN, 2},
+        {HISPROAT_STATUS_AT_CHANNEL_MAX, 2},   {HISPROAT_STATUS_AT_TAKEN, 4},
     };
     uint8_t status[HISPROAT_STATUS_SIZE];
-    if (hisproat_status(run->state, sizeof run->state, status, sizeof status) != 0)
+    if (hisproat_status(run->state, run->state_length, status, sizeof status) != 0)
         fail(run, "the state cannot be read");
     for (size_t i = 0; i < sizeof places / sizeof places[0]; i++)
         if (hisproat_number(status + places[i].at, places[i].width) != number(words[i + 1]))
@@ -199,8 +201,8 @@ static void holds(struct run *run, char *words[MOST_WORDS])
 {
     uint8_t found[HISPROAT_HANDLE_SIZE];
     uint16_t channel = (uint16_t)number(words[1]);
-    uint8_t refused = strcmp(words[0], "taken") == 0 ? hisproat_handle_at(run->state, sizeof run->state, channel, found, sizeof found)
-                                                     : hisproat_tied_handle(run->state, sizeof run->state, channel, found, sizeof found);
+    uint8_t refused = strcmp(words[0], "taken") == 0 ? hisproat_handle_at(run->state, run->state_length, channel, found, sizeof found)
+                                                     : hisproat_tied_handle(run->state, run->state_length, channel, found, sizeof found);
     if (refused != 0 || found[HISPROAT_HANDLE_AT_FOUND] != 1 ||
         hisproat_number(found + HISPROAT_HANDLE_AT_NUMBER, 4) != number(words[2]))
         fail(run, "another handle");

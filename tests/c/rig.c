@@ -1,6 +1,8 @@
 /* See rig.h. */
 #include "rig.h"
 
+#include "judge.h"
+
 #include <stdio.h>
 #include <stdlib.h>
 #include <string.h>
@@ -201,7 +203,12 @@ Settings p1(void)
 
 Engine new_engine(Tally *tally, int is_listener, Settings settings)
 {
-    Engine engine = { .tally = tally, .state = lend_pattern(tally, HISPROAT_STATE_SIZE) };
+    return new_engine_in(tally, lend_pattern(tally, HISPROAT_STATE_SIZE(settings.channel_max)), is_listener, settings);
+}
+
+Engine new_engine_in(Tally *tally, Slice state, int is_listener, Settings settings)
+{
+    Engine engine = { .tally = tally, .state = state };
     Slice id = lend(tally, text(settings.container_id));
     uint8_t refused = (is_listener ? hisproat_listener : hisproat_dialler)(engine.state.at, engine.state.len, id.at, id.len, settings.max_frame_size,
                                                                           settings.channel_max, settings.has_idle_time_out, settings.idle_time_out);
@@ -226,12 +233,7 @@ Bytes wire(const Engine *engine)
     return (Bytes){ .at = engine->wire, .len = engine->wire_len };
 }
 
-/* The slices that one call is lent. */
-typedef struct {
-    Slice state, input, description, waiting, output, answer;
-} Lent;
-
-static uint8_t frames_event(const Order *order, Lent *l)
+static uint8_t frames_event(const Order *order, const Lent *l)
 {
     uint8_t *s = l->state.at, *out = l->output.at, *a = l->answer.at;
     size_t sn = l->state.len, on = l->output.len, an = l->answer.len;
@@ -251,7 +253,7 @@ static uint8_t frames_event(const Order *order, Lent *l)
     }
 }
 
-static uint8_t event(const Order *order, Lent *l)
+uint8_t call_event(const Order *order, const Lent *l)
 {
     uint8_t *s = l->state.at, *out = l->output.at, *a = l->answer.at;
     size_t sn = l->state.len, on = l->output.len, an = l->answer.len;
@@ -275,6 +277,12 @@ static uint8_t event(const Order *order, Lent *l)
     default:
         return frames_event(order, l);
     }
+}
+
+int same_said(const Said *a, const Said *b)
+{
+    return a->refused == b->refused && a->stopped == b->stopped && a->outcome == b->outcome && a->kind == b->kind && a->detail == b->detail && a->channel == b->channel
+        && a->number == b->number && a->body_start == b->body_start && a->body_length == b->body_length && a->consumed == b->consumed && a->written == b->written;
 }
 
 static Said taken_apart(const uint8_t *a)
@@ -312,6 +320,15 @@ static void check_done(Engine *engine, const Said *said, const Lent *l)
     check(t, said->outcome == (said->stopped ? now.outcome : 0), "the status tells the outcome");
 }
 
+/* Of the fixed part an event changes the moving bytes, and past the tables nothing. */
+static void check_kept(Tally *t, const Lent *l, Bytes state_before)
+{
+    const uint8_t *before = state_before.at, *now = l->state.at;
+    size_t tables_end = needed(before, l->state.len);
+    check(t, memcmp(before, now, AT_MOVING) == 0 && memcmp(before + AT_ID_LENGTH, now + AT_ID_LENGTH, AT_TABLES - AT_ID_LENGTH) == 0, "the settings are as they were");
+    check(t, l->state.len >= tables_end && memcmp(before + tables_end, now + tables_end, l->state.len - tables_end) == 0, "bytes past the tables are as they were");
+}
+
 static void check_refused(Tally *t, const Lent *l, Bytes state_before)
 {
     check(t, same((Bytes){ l->state.at, l->state.len }, state_before), "a refusal leaves the state");
@@ -342,27 +359,50 @@ Said perform(Engine *engine, Order given)
         .output = lend_pattern(t, hisproat_room(order.waiting.len) - order.output_short),
         .answer = lend_pattern(t, HISPROAT_ANSWER_SIZE - order.answer_short),
     };
-    uint8_t before[HISPROAT_STATE_SIZE + 1];
+    Slice before = lend(t, (Bytes){ l.state.at, l.state.len });
     Said said = { .refused = 0 };
-    memcpy(before, l.state.at, l.state.len);
-    uint8_t refused = event(&order, &l);
+    uint8_t refused = call_event(&order, &l);
     engine->wire_len = 0;
     if (refused == HISPROAT_OK) {
         said = taken_apart(l.answer.at);
         check_done(engine, &said, &l);
+        check_kept(t, &l, (Bytes){ before.at, before.len });
         engine->wire_len = said.written <= sizeof engine->wire ? (size_t)said.written : 0;
         memcpy(engine->wire, l.output.at, engine->wire_len);
     } else {
         said.refused = refused;
-        check_refused(t, &l, (Bytes){ before, l.state.len });
+        check_refused(t, &l, (Bytes){ before.at, before.len });
     }
     check_inputs(t, &order, &l);
+    give_back(t, &before);
     give_back(t, &l.input);
     give_back(t, &l.description);
     give_back(t, &l.waiting);
     give_back(t, &l.output);
     give_back(t, &l.answer);
     return said;
+}
+
+Order any_order(Event event, const Piece *header, const Piece *session_frame)
+{
+    Order order = { .event = event };
+    if (event == ON_RECEIVE_HEADER)
+        order.input = of(header);
+    else if (event == ON_INCOMING || event == ON_OUTGOING)
+        order.input = of(session_frame);
+    else if (event == ON_CLOSE_WITH_ERROR)
+        order.input = text("a:b");
+    return order;
+}
+
+int writes(Event event)
+{
+    return event != ON_RECEIVE_HEADER && event != ON_ALLOCATE && event != ON_DEALLOCATE;
+}
+
+void refused(Engine *engine, Order order, uint8_t number, const char *what)
+{
+    check(engine->tally, perform(engine, order).refused == number, what);
 }
 
 Said send_header(Engine *engine)
@@ -445,6 +485,14 @@ void open_with(Engine *engine, Bytes peer_open)
     check(t, status(engine).state == HISPROAT_STATE_OPENED, "the engine is open");
 }
 
+Engine opened(Tally *tally, int is_listener)
+{
+    Piece peer_open = frame(0, OPEN_OF_H);
+    Engine engine = new_engine(tally, is_listener, p1());
+    open_with(&engine, of(&peer_open));
+    return engine;
+}
+
 Status status(Engine *engine)
 {
     Tally *t = engine->tally;
@@ -462,8 +510,8 @@ Status status(Engine *engine)
             .reading_limit = (uint32_t)hisproat_number(a + HISPROAT_STATUS_AT_READING_LIMIT, 4),
             .writing_limit = (uint32_t)hisproat_number(a + HISPROAT_STATUS_AT_WRITING_LIMIT, 4),
             .agreed = a[HISPROAT_STATUS_AT_AGREED],
-            .channel_max = a[HISPROAT_STATUS_AT_CHANNEL_MAX],
-            .taken = (uint16_t)hisproat_number(a + HISPROAT_STATUS_AT_TAKEN, 2),
+            .channel_max = (uint16_t)hisproat_number(a + HISPROAT_STATUS_AT_CHANNEL_MAX, 2),
+            .taken = (uint32_t)hisproat_number(a + HISPROAT_STATUS_AT_TAKEN, 4),
         };
     give_back(t, &answer);
     return now;

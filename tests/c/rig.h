@@ -101,7 +101,9 @@ typedef struct {
 /* container p1, max-frame-size 4096, channel-max 7, no idle-time-out */
 Settings p1(void);
 
+/* In a state of exactly its size, with a pattern in it; or in this one, whatever it has. */
 Engine new_engine(Tally *tally, int is_listener, Settings settings);
+Engine new_engine_in(Tally *tally, Slice state, int is_listener, Settings settings);
 void drop_engine(Engine *engine);
 Bytes wire(const Engine *engine);
 
@@ -136,6 +138,13 @@ typedef struct {
     size_t answer_short; /* by how much the answer is smaller than HISPROAT_ANSWER_SIZE */
 } Order;
 
+/* The slices that one call is lent, and the call. */
+typedef struct {
+    Slice state, input, description, waiting, output, answer;
+} Lent;
+
+uint8_t call_event(const Order *order, const Lent *lent);
+
 /* What a call returned, and its answer taken apart. On a refusal all but `refused` is 0. */
 typedef struct {
     uint8_t refused;
@@ -151,11 +160,23 @@ typedef struct {
     uint64_t written;
 } Said;
 
+int same_said(const Said *a, const Said *b);
+
 /*
  * Makes a call, and checks what holds of every call: a refusal changes no byte of state, output and answer; else nothing is written behind what the answer says;
- * inputs stay as they are; the state can be read afterwards, and tells of the stop and the outcome what the answer told.
+ * inputs stay as they are, and so do the settings in the state and the bytes past its tables; the state can be read afterwards, and tells of the stop and the outcome
+ * what the answer told.
  */
 Said perform(Engine *engine, Order order);
+
+/* An order of each event, whose inputs are good. */
+Order any_order(Event event, const Piece *header, const Piece *session_frame);
+
+/* Whether an event is lent an output. */
+int writes(Event event);
+
+/* An order that must be refused with this number. */
+void refused(Engine *engine, Order order, uint8_t number, const char *what);
 
 Said send_header(Engine *engine);
 Said receive_header(Engine *engine, Bytes header);
@@ -182,8 +203,8 @@ typedef struct {
     uint32_t reading_limit;
     uint32_t writing_limit;
     uint8_t agreed;
-    uint8_t channel_max;
-    uint16_t taken;
+    uint16_t channel_max;
+    uint32_t taken;
 } Status;
 
 Status status(Engine *engine);
@@ -192,8 +213,25 @@ Status status(Engine *engine);
 int64_t handle_at(Engine *engine, uint16_t channel);
 int64_t tied_handle(Engine *engine, uint16_t channel);
 
-/* ---- state_bytes.c: each byte of a state altered. All values of the first bytes, or some of them. */
+/* A new engine of p1(), brought to Opened with a peer whose channel-max is 3. */
+Engine opened(Tally *tally, int is_listener);
 
-void state_bytes(Tally *tally, int all_values);
+/* ---- Parts in files of their own. With `all` a part tries more values, or more channels; without, it is quick enough for a run under valgrind. */
+
+/* states and answers of their size, and of other sizes */
+void sizes(Tally *tally);
+
+/* Drives two new engines of one role, made with p1(), through a life, and checks that they tell the same. */
+void same_life(Engine *first, Engine *second);
+
+/* each byte of the fixed part altered */
+void state_bytes(Tally *tally, int all);
+
+/* new engines in used memory, and tables that are altered between calls */
+void fresh_tables(Tally *tally);
+void altered_tables(Tally *tally, int all);
+
+/* connections with 65,536 channels */
+void many_channels(Tally *tally, int all);
 
 #endif

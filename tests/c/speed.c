@@ -3,9 +3,15 @@
  *   speed                               a line for each operation: its name, how many sessions there are, nanoseconds, bytes of stack
  *   speed OPERATION SESSIONS ROUNDS     does so many rounds and prints nothing: for a tool that counts instructions
  *   speed stack                         the most bytes of stack that any of the operations was seen to use
- * bin/speed makes a table of the first two. A round is one call; of `pair` it is two, allocate and deallocate. `fault` is a frame for no session, which is answered
- * with a Close. `deep` is the call that is known to use the most stack: a close order with an error, while an Attach waits whose last field is a list in a list and
- * so on, down to the sixteenth level. Each round of these two begins by putting the state back.
+ * bin/speed makes a table of the first two. The tables of the state are those of 65,536 channels in each case. A round is one call:
+ *   transfer    a Transfer that comes, on the highest channel that has a session
+ *   allocate    takes a channel that was never taken
+ *   pair        two calls, allocate and deallocate, of the channel that was freed last
+ *   new         a new listener with as many channels as there are sessions
+ *   fault       a frame for no session, which is answered with a Close
+ *   deep        the call that is known to use the most stack: a close order with an error, while a Begin waits whose last field is an array in an array and so on, down
+ *               to the sixteenth level
+ * Each round of `allocate`, `deallocate`, `fault` and `deep` begins by putting back what such a call changes of the state.
  */
 #define _POSIX_C_SOURCE 200809L
 
@@ -17,11 +23,13 @@
 #include <string.h>
 #include <time.h>
 
-enum { MOST_WAITING = 128 };
+enum { MOST_WAITING = 256, CHANNEL_MAX = 65535, MOVING_AT = 16, MOVING_SIZE = 26 }; /* of a state's fixed part only the moving bytes ever change */
 
 typedef struct {
-    uint8_t state[HISPROAT_STATE_SIZE];
-    uint8_t set_up[HISPROAT_STATE_SIZE]; /* the state as it was set up */
+    uint8_t state[HISPROAT_STATE_SIZE(CHANNEL_MAX)];
+    uint8_t set_up[MOVING_SIZE];        /* the moving bytes as they were set up */
+    uint8_t place[HISPROAT_PLACE_SIZE]; /* the place of the highest channel as it was set up */
+    unsigned highest;                   /* the highest channel that has a session */
     uint8_t waiting[MOST_WAITING];
     uint8_t output[HISPROAT_OUTPUT_ROOM + 2 * MOST_WAITING];
     uint8_t answer[HISPROAT_ANSWER_SIZE];
@@ -39,6 +47,16 @@ static uint8_t nothing(Work *w)
     return 0;
 }
 
+static uint8_t *highest_place(Work *w)
+{
+    return w->state + HISPROAT_FIXED_SIZE + (size_t)HISPROAT_PLACE_SIZE * w->highest;
+}
+
+static void put_back(Work *w)
+{
+    memcpy(w->state + MOVING_AT, w->set_up, sizeof w->set_up);
+}
+
 static uint8_t frame_in(Work *w, const uint8_t *frame, size_t len)
 {
     return hisproat_on_incoming(w->state, sizeof w->state, frame, len, 0, &NOTHING, 0, w->output, sizeof w->output, w->answer, sizeof w->answer);
@@ -47,8 +65,10 @@ static uint8_t frame_in(Work *w, const uint8_t *frame, size_t len)
 /* A press: handle, delivery-id, tag, format, settled; the value 1 */
 static uint8_t transfer(Work *w)
 {
-    static const uint8_t frame[] = { 0,    0,    0,    0x1A, 2,    0,    0, 0,    0x00, 0x53, 0x14, 0xC0, 0x08,
-                                     0x05, 0x43, 0x43, 0xA0, 1,    0,    0x43, 0x41, 0x00, 0x53, 0x77, 0x52, 0x01 };
+    static uint8_t frame[] = { 0,    0,    0,    0x1A, 2,    0,    0, 0,    0x00, 0x53, 0x14, 0xC0, 0x08,
+                               0x05, 0x43, 0x43, 0xA0, 1,    0,    0x43, 0x41, 0x00, 0x53, 0x77, 0x52, 0x01 };
+    frame[6] = (uint8_t)(w->highest >> 8);
+    frame[7] = (uint8_t)w->highest;
     return frame_in(w, frame, sizeof frame);
 }
 
@@ -63,34 +83,50 @@ static uint8_t pair(Work *w)
     return refused ? refused : hisproat_on_deallocate(w->state, sizeof w->state, hisproat_channel(w->answer), w->answer, sizeof w->answer);
 }
 
+static uint8_t allocate(Work *w)
+{
+    put_back(w);
+    return hisproat_on_allocate(w->state, sizeof w->state, 7, w->answer, sizeof w->answer);
+}
+
+static uint8_t deallocate(Work *w)
+{
+    put_back(w);
+    memcpy(highest_place(w), w->place, sizeof w->place);
+    return hisproat_on_deallocate(w->state, sizeof w->state, (uint16_t)w->highest, w->answer, sizeof w->answer);
+}
+
+static uint8_t new(Work *w)
+{
+    return hisproat_listener(w->state, sizeof w->state, (const uint8_t *)"hub", 3, 16384, (uint16_t)w->highest, 1, 30000);
+}
+
 static uint8_t fault(Work *w)
 {
-    static const uint8_t frame[] = { 0, 0, 0, 0x0C, 2, 0, 0, 0xFF, 0x00, 0x53, 0x12, 0x45 };
-    memcpy(w->state, w->set_up, sizeof w->state);
+    static const uint8_t frame[] = { 0, 0, 0, 0x0C, 2, 0, 0xFF, 0xFF, 0x00, 0x53, 0x12, 0x45 };
+    put_back(w);
     return frame_in(w, frame, sizeof frame);
 }
 
-/* An Attach of fourteen fields, of which the last is `lists` lists, one in the other. Returns its length. */
-static size_t deep_attach(uint8_t *frame, unsigned lists)
+/* A Begin of eight fields, of which the last is `arrays` arrays, one in the other. Returns its length. */
+static size_t deep_begin(uint8_t *frame, unsigned arrays)
 {
-    static const uint8_t START[] = { 0, 0, 0, 0, 2, 0, 0, 0, 0x00, 0x53, 0x12, 0xC0, 0, 14, 0x40, 0x40, 0x40, 0x40, 0x40, 0x40, 0x40, 0x40, 0x40, 0x40, 0x40, 0x40, 0x40 };
-    size_t len = sizeof START, end = len + 3 * lists + 1;
+    static const uint8_t START[] = { 0, 0, 0, 0, 2, 0, 0, 0, 0x00, 0x53, 0x11, 0xC0, 0, 8, 0x40, 0x43, 0x43, 0x43, 0x43, 0x40, 0x40, 0xF0 };
+    size_t len = sizeof START, end = len + 9 * arrays;
     memcpy(frame, START, len);
     frame[3] = (uint8_t)end;
     frame[12] = (uint8_t)(end - 13);
-    for (; len + 1 < end; len += 3) {
-        frame[len] = 0xC0;
-        frame[len + 1] = (uint8_t)(end - len - 2);
-        frame[len + 2] = 1;
+    for (; len < end; len += 9) {
+        const uint8_t array[] = { 0, 0, 0, (uint8_t)(end - len - 4), 0, 0, 0, 1, len + 9 < end ? 0xF0 : 0x40 };
+        memcpy(frame + len, array, sizeof array);
     }
-    frame[len] = 0x40;
     return end;
 }
 
 static uint8_t deep(Work *w)
 {
-    size_t len = deep_attach(w->waiting, 15);
-    memcpy(w->state, w->set_up, sizeof w->state);
+    size_t len = deep_begin(w->waiting, 15);
+    put_back(w);
     return hisproat_on_close_with_error(w->state, sizeof w->state, (const uint8_t *)"amqp:connection:forced", 22, 0, &NOTHING, 0, w->waiting, len, w->output,
                                         sizeof w->output, w->answer, sizeof w->answer);
 }
@@ -103,7 +139,9 @@ static uint8_t status(Work *w)
 static const struct {
     const char *name;
     Round *round;
-} OPERATIONS[] = { { "transfer", transfer }, { "tick", tick }, { "pair", pair }, { "fault", fault }, { "deep", deep }, { "status", status } };
+} OPERATIONS[] = { { "transfer", transfer }, { "tick", tick },   { "allocate", allocate }, { "deallocate", deallocate },
+                   { "pair", pair },         { "fault", fault }, { "deep", deep },         { "status", status },
+                   { "new", new } };
 
 enum { COUNT = sizeof OPERATIONS / sizeof OPERATIONS[0] };
 
@@ -121,16 +159,19 @@ static void set_up(Work *w, unsigned sessions)
 {
     static const uint8_t open[] = { 0, 0, 0, 0x11, 2, 0, 0, 0, 0x00, 0x53, 0x10, 0xC0, 0x04, 0x01, 0xA1, 1, 'p' };
     uint8_t begin[] = { 0, 0, 0, 0x14, 2, 0, 0, 0, 0x00, 0x53, 0x11, 0xC0, 0x07, 0x04, 0x40, 0x43, 0x52, 100, 0x52, 100 };
-    need(hisproat_listener(w->state, sizeof w->state, (const uint8_t *)"hub", 3, 16384, 255, 1, 30000), "settings");
+    need(hisproat_listener(w->state, sizeof w->state, (const uint8_t *)"hub", 3, 16384, CHANNEL_MAX, 1, 30000), "settings");
     need(hisproat_receive_header(w->state, sizeof w->state, (const uint8_t *)"AMQP\0\1\0\0", 8, w->answer, sizeof w->answer), "header");
     need(hisproat_send_header(w->state, sizeof w->state, w->output, sizeof w->output, w->answer, sizeof w->answer), "header");
     need(frame_in(w, open, sizeof open), "Open");
     need(hisproat_send_open(w->state, sizeof w->state, w->output, sizeof w->output, w->answer, sizeof w->answer), "Open");
     for (unsigned i = 0; i < sessions; i++) {
+        begin[6] = (uint8_t)(i >> 8);
         begin[7] = (uint8_t)i;
         need(frame_in(w, begin, sizeof begin), "Begin");
     }
-    memcpy(w->set_up, w->state, sizeof w->set_up);
+    w->highest = sessions - 1;
+    memcpy(w->set_up, w->state + MOVING_AT, sizeof w->set_up);
+    memcpy(w->place, highest_place(w), sizeof w->place);
 }
 
 /* ---- Measuring */
@@ -203,7 +244,7 @@ static size_t stack_of(Round *round, Work *w)
 
 static void measure_all(void)
 {
-    static const unsigned SESSIONS[] = { 1, 255 };
+    static const unsigned SESSIONS[] = { 1, 255, 65535 };
     static Work w;
     for (size_t i = 0; i < COUNT; i++)
         for (size_t j = 0; j < sizeof SESSIONS / sizeof SESSIONS[0]; j++) {

@@ -1,22 +1,25 @@
 // Numbers out of the answers, for the sums, and the way from channel to channel.
-use channels::Held;
 use connection::AllocateAnswer;
+use connection::DeallocateAnswer;
 use connection::TickAnswer;
 use endpoint::FrameAnswer;
-use engine::DeallocateAnswer;
 
 pub(crate) fn plus(a: u64, b: u64) -> u64 {
     std::num::wrapping_add_u64(a, b)
 }
 
-pub(crate) fn wide(k: u8) -> u16 {
-    k as u16
-}
-
 // The channel after k; the first one after the last.
-pub(crate) fn next(k: u8, last: u8) -> u8 {
+pub(crate) fn next(k: u16, last: u16) -> u16 {
     if k < last {
         return k + 1;
+    }
+    0
+}
+
+// The byte after b; 0 after the last one.
+pub(crate) fn after(b: u8) -> u8 {
+    if b < 255 {
+        return b + 1;
     }
     0
 }
@@ -31,13 +34,6 @@ pub(crate) fn handle_of(answer: FrameAnswer) -> u64 {
             len: _,
         } => handle as u64,
         _ => 0,
-    }
-}
-
-pub(crate) fn held(answer: Held) -> u64 {
-    match answer {
-        Held::Handle(handle) => handle as u64,
-        Held::Nothing => 0,
     }
 }
 

@@ -1,26 +1,32 @@
 // The operations as events of an engine, each so many times over on the engine that the one before gave back. Each answers a sum of what the events
 // answered. No session frame ever waits.
+use crate::answers::after;
 use crate::answers::channel_of;
 use crate::answers::freed;
 use crate::answers::handle_of;
 use crate::answers::idle_of;
 use crate::answers::next;
 use crate::answers::plus;
-use crate::answers::wide;
 use crate::answers::wrote;
 use crate::setting;
 use engine::ConnectionEngine;
 
 // A Transfer is received, on each channel in turn.
-pub(crate) fn transfers(hub: ConnectionEngine, last: u8, rounds: u64, out: &mut [u8]) -> u64 {
+pub(crate) fn transfers(
+    hub: ConnectionEngine,
+    last: u16,
+    rounds: u64,
+    tables: &mut [u8],
+    out: &mut [u8],
+) -> u64 {
     let mut frame = setting::TRANSFER;
     let mut engine = hub;
     let mut sum: u64 = 0;
-    let mut channel: u8 = 0;
+    let mut channel: u16 = 0;
     let mut left = rounds;
     while 0 < left {
         setting::set_channel(&mut frame, channel);
-        let received = engine.on_incoming(&frame, 0, b"", out);
+        let received = engine.on_incoming(tables, &frame, 0, b"", out);
         engine = received.engine;
         let answer = received.answer;
         sum = plus(sum, handle_of(answer));
@@ -31,17 +37,17 @@ pub(crate) fn transfers(hub: ConnectionEngine, last: u8, rounds: u64, out: &mut 
 }
 
 // The session on each channel in turn is deallocated, and its channel allocated again.
-pub(crate) fn pairs(hub: ConnectionEngine, last: u8, rounds: u64) -> u64 {
+pub(crate) fn pairs(hub: ConnectionEngine, last: u16, rounds: u64, tables: &mut [u8]) -> u64 {
     let mut engine = hub;
     let mut sum: u64 = 0;
-    let mut channel: u8 = 0;
+    let mut channel: u16 = 0;
     let mut left = rounds;
     while 0 < left {
-        let given_back = engine.on_deallocate(wide(channel));
+        let given_back = engine.on_deallocate(tables, channel);
         let answer = given_back.answer;
         sum = plus(sum, freed(answer));
         let without = given_back.engine;
-        let given = without.on_allocate(2000);
+        let given = without.on_allocate(tables, 2000);
         let answer = given.answer;
         sum = plus(sum, channel_of(answer));
         engine = given.engine;
@@ -52,7 +58,12 @@ pub(crate) fn pairs(hub: ConnectionEngine, last: u8, rounds: u64) -> u64 {
 }
 
 // An Open is received, each time by the same hub, which waits for it.
-pub(crate) fn opens(waiting: ConnectionEngine, rounds: u64, out: &mut [u8]) -> u64 {
+pub(crate) fn opens(
+    waiting: ConnectionEngine,
+    rounds: u64,
+    tables: &mut [u8],
+    out: &mut [u8],
+) -> u64 {
     let mut frame = setting::OPEN;
     let mut engine = waiting;
     let mut sum: u64 = 0;
@@ -60,14 +71,14 @@ pub(crate) fn opens(waiting: ConnectionEngine, rounds: u64, out: &mut [u8]) -> u
     let mut left = rounds;
     while 0 < left {
         setting::set_last(&mut frame, b);
-        let received = waiting.on_incoming(&frame, 0, b"", out);
+        let received = waiting.on_incoming(tables, &frame, 0, b"", out);
         engine = received.engine;
         let answer = received.answer;
         sum = plus(sum, idle_of(answer));
-        b = next(b, 255);
+        b = after(b);
         left -= 1;
     }
-    let given = engine.on_allocate(2000);
+    let given = engine.on_allocate(tables, 2000);
     let answer = given.answer;
     plus(sum, channel_of(answer))
 }

@@ -1,11 +1,13 @@
 -- What the proofs of several functions, and of the crates above, use.
 pub mod Numbers
 pub mod Counting
-pub mod Steps
+pub mod Kept
 pub mod Laws
-pub mod Sharing
-pub mod Parts
-pub mod Writing
-pub mod Reading
-pub mod Lists
-pub mod Tables
+pub mod Words
+pub mod Fields
+pub mod Limits
+pub mod Chains
+pub mod Sounds
+pub mod Opening
+pub mod Steps
+pub mod Tying

@@ -2,7 +2,7 @@
 -- Assumes nothing.
 use mathlib.Core.Path.{_≡_, refl, sym, _∙_, ap, subst}
 use mathlib.Core.Bool.{Bool, true, false, cond}
-use mathlib.Core.List.{List, [], _∷_}
+use mathlib.Core.List.{List, _∷_}
 use mathlib.Core.Option.{Option, none, some}
 use Prim.Native.Nat.{ℕ, zero, suc, _+_, _≤_, _<_}
 use native.Mathlib.Omega.{arith}
@@ -39,7 +39,7 @@ pub once-taken : (m : ℕ) (l : List ℕ) (tk : Map) (k h : ℕ) → EachOnce m 
 once-taken m l tk k h i e = leb→le k m (leb-of-one (count k l) (leb k m) (sym (ap (λ o. count k l + isTaken o) e) ∙ i k))
 
 -- the whole list, with nothing taken
-below-none : (k n j : ℕ) → k < n → count k (upFrom n j) ≡ 0
+pub below-none : (k n j : ℕ) → k < n → count k (upFrom n j) ≡ 0
 below-none k n zero l = refl
 below-none k n (suc j) l = rw (ne-eqb n k (omega arith)) (omega (arith, below-none k (suc n) j (omega arith)))
 
@@ -47,7 +47,7 @@ above-none : (k n j : ℕ) → n + j ≤ k → count k (upFrom n j) ≡ 0
 above-none k n zero l = refl
 above-none k n (suc j) l = rw (ne-eqb n k (omega arith)) (omega (arith, above-none k (suc n) j (omega arith)))
 
-within-once : (k n j : ℕ) → n ≤ k → k < n + j → count k (upFrom n j) ≡ 1
+pub within-once : (k n j : ℕ) → n ≤ k → k < n + j → count k (upFrom n j) ≡ 1
 within-once k n zero l u = let z : ⊥ = omega arith in absurd z
 within-once k n (suc j) l u = elim (ℕ-discrete n k) [
   | yes e ↦ rw (eq-eqb n k e) (omega (arith, below-none k (suc n) j (omega arith)))

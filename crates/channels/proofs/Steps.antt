@@ -1,172 +1,34 @@
--- What each return of the functions shows, with the facts as they come.
+-- What each return of the functions on outgoing channel numbers shows, with the facts as they come.
 -- Assumes nothing.
-use mathlib.Core.Path.{_≡_, refl, sym, _∙_, ap, subst, fun-ext}
-use mathlib.Core.Bool.{Bool, true, false, cond}
-use mathlib.Core.List.{List, [], _∷_}
+use mathlib.Core.Path.{_≡_, refl, sym, _∙_, ap, fun-ext}
+use mathlib.Core.Bool.{Bool, true, false}
+use mathlib.Core.List.{List, [], _∷_, _++_}
 use mathlib.Core.Option.{Option, none, some}
-use Prim.Native.Nat.{ℕ, zero, suc, _+_, _-_, _≤_, _<_}
-use native.Mathlib.Numerals.{add-one}
+use Prim.Native.Nat.{ℕ, suc, _+_, _-_, _≤_, _<_}
 use native.Mathlib.Omega.{arith}
 use native.Mathlib.Decide.{decLe, ℕ-discrete}
-use lib.Dec.{eqb}
-use lib.ListN.{length, getD, set, replicate, List·getD-eq-default}
-use lib.Seq.{getD-set-same, getD-set-other}
-use borrow.Author.Tests.{eq-eqb, ne-eqb}
-use mir.Syntax.{w8}
-use mir.Val.{Fits}
-use Rattle.channels.specs.Numbers.{nowhere, with, upFrom, freedFirst}
-use Rattle.channels.specs.Numbers.{one, count, EachOnce, Shared, takenBelow}
-use Rattle.channels.specs.declared.Handles.{Handles}
+use lib.Dec.{ltb}
+use borrow.Author.Tests.{eq-eqb, ne-eqb, lt-ltb, le-ltb, le-leb, lt-leb}
+use Rattle.channels.specs.Places.{Covers, field}
+use Rattle.channels.specs.Numbers.{Map, with, upFrom, freedFirst, isTaken, count, Shared, takenBelow}
+use Rattle.channels.specs.declared.OutgoingChannels.{OutgoingChannels}
 use Rattle.channels.specs.declared.Held.{Held}
 use Rattle.channels.specs.declared.Held.the-variants.{Handle, Nothing}
-use Rattle.channels.specs.declared.OutgoingChannels.{OutgoingChannels}
 use Rattle.channels.specs.declared.Allocated.the-variants.{Channel, NotOpened, Full}
+use Rattle.channels.specs.declared.Allocation.{Allocation}
+use Rattle.channels.specs.declared.Deallocation.{Deallocation}
 use Rattle.channels.specs.declared.AgreedMax.the-variants.{Absent, Is}
-use Rattle.channels.specs.Channels.{handlesSay, heldSays, agreedMaxSays, chain, agreedSays, handOutSays, takenSays, nextOf, SharedBy, Ascends, Fresh, Opens, Allocates, Frees, Counts}
-use Rattle.channels.specs.Bytes.{TellsBelow}
-use Rattle.channels.proofs.Counting.{none-below, free-and-taken, taken-not-free, none-taken}
+use Rattle.channels.specs.Channels.{heldSays, agreedMaxSays, nextOf, counts, countsOk, chain, agreedSays, handOutSays, takenSays, Sound, Becomes, Allocates, Frees, Finds}
+use Rattle.channels.proofs.Numbers.{shared-take, shared-give}
+use Rattle.channels.proofs.Counting.{taken-below, taken-not-free}
+use Rattle.channels.proofs.Kept.{covers-kept, ties-same}
+use Rattle.channels.proofs.Fields.{hasPlace, has-true, has-false, field-same, field-apart}
+pub use Rattle.channels.proofs.Limits.{apart}
+use Rattle.channels.proofs.Limits.{opened-limits, closed-limits, opened-within, used-low}
+use Rattle.channels.proofs.Chains.{takenBy, freedBefore, taken-long, taken-apart, taken-ties, taken-link, taken-handle, freed-long, freed-ties, chain-none, chain-pop, chain-same, count-append, up-pop}
+use Rattle.channels.proofs.Sounds.{nextFree, afterHead, says-taken, says-free, says-past, says-same, list-of, once, taken-low, all-numbers, follows, head-low, head-alone, head-used, after-low}
 
-pub apart : {A : Type 0} → _≡_ {A = ℕ} 0 1 → A
-apart z = absurd (omega arith)
-
--- ---- handles by number
-
-pub getD-all : {A : Type 0} (n k : ℕ) (d : A) → getD (replicate n d) k d ≡ d
-getD-all zero k d = refl
-getD-all (suc n) zero d = refl
-getD-all (suc n) (suc k) d = getD-all n k d
-
-pub no-handles : handlesSay (record { held = replicate 256 false; handles = replicate 256 0 }) ≡ nowhere
-unfolding handlesSay
-no-handles = fun-ext (λ k. rw (getD-all 256 k false))
-
--- ---- Handles::are_below
-
--- none of the numbers from n to k is held
-abbrev pub NoneHeld : List Bool → ℕ → ℕ → Type 0
-NoneHeld marks n k = (n ≤ k) × ((j : ℕ) → n ≤ j → j < k → getD marks j false ≡ false)
-
-pub none-held : (marks : List Bool) (n : ℕ) → NoneHeld marks n n
-none-held marks n = (omega arith, λ j h l. absurd (omega arith))
-
-pub none-more : (marks : List Bool) (n k : ℕ) → NoneHeld marks n k → getD marks k false ≡ false → NoneHeld marks n (k + 1)
-none-more marks n k inv e = (
-  omega (arith, inv .0),
-  λ j h l. elim (ℕ-discrete j k) [
-    | yes q ↦ rw q e
-    | no q ↦ inv .1 j h (omega arith)
-  ],
-)
-
-module _ (t : Handles) (n k : ℕ) where
-  pub one-above : n ≤ k → getD (t .held) k false ≡ true → TellsBelow t n false
-  unfolding handlesSay
-  one-above h e = record { yes = λ q. apart (cc); no = λ q all. omega (arith, all k (getD (t .handles) k 0) (rw e)) }
-
-  pub all-below : length (t .held) ≡ 256 → 256 ≤ k → NoneHeld (t .held) n k → TellsBelow t n true
-  unfolding handlesSay
-  all-below l h inv = record { yes = λ q. by; no = λ q. apart (cc) }
-    where
-      not-held : (j x : ℕ) → handlesSay t j ≡ some x → n ≤ j → ⊥
-      not-held j x e low = elim (decLe j 255) [
-        | yes m ↦ let z : handlesSay t j ≡ none = rw (inv .1 j low (omega arith)) in apart (cc)
-        | no m ↦ let z : handlesSay t j ≡ none = rw (List·getD-eq-default (t .held) false {n = j} (omega arith)) in apart (cc)
-      ]
-
-      by : (j x : ℕ) → handlesSay t j ≡ some x → j < n
-      by j x e = elim (decLe n j) [
-        | yes m ↦ absurd (not-held j x e m)
-        | no m ↦ omega arith
-      ]
-
-module _ (t : Handles) (k : ℕ) where
-  pub got-past : length (t .held) ≡ 256 → 255 < k → heldSays Nothing ≡ handlesSay t k
-  unfolding handlesSay
-  got-past e l = rw (List·getD-eq-default (t .held) false {n = k} (omega arith))
-
-  pub got-handle : getD (t .held) k false ≡ true → heldSays (Handle (getD (t .handles) k 0)) ≡ handlesSay t k
-  unfolding handlesSay
-  got-handle e = rw e
-
-  pub got-nothing : getD (t .held) k false ≡ false → heldSays Nothing ≡ handlesSay t k
-  unfolding handlesSay
-  got-nothing e = rw e
-
-  pub inserted : (h : ℕ) → k < length (t .held) → k < length (t .handles) → handlesSay (record { held = set (t .held) k true; handles = set (t .handles) k h }) ≡ with (handlesSay t) k (some h)
-  unfolding handlesSay
-  inserted h a b = fun-ext (λ n. elim (ℕ-discrete n k) [
-    | yes e ↦ rw (e, eq-eqb k k refl, getD-set-same (t .held) k true false a, getD-set-same (t .handles) k h 0 b)
-    | no e ↦ rw (ne-eqb k n (λ q. e (sym q)), getD-set-other (t .held) k n true false e, getD-set-other (t .handles) k n h 0 e)
-  ])
-
-  pub removed : k < length (t .held) → handlesSay (record { held = set (t .held) k false; handles = t .handles }) ≡ with (handlesSay t) k none
-  unfolding handlesSay
-  removed a = fun-ext (λ n. elim (ℕ-discrete n k) [
-    | yes e ↦ rw (e, eq-eqb k k refl, getD-set-same (t .held) k false false a)
-    | no e ↦ rw (ne-eqb k n (λ q. e (sym q)), getD-set-other (t .held) k n false false e)
-  ])
-
--- ---- chains
-
-pub chain-length : (links : List ℕ) (k n : ℕ) → length (chain links k n) ≡ n
-unfolding chain
-chain-length links k zero = refl
-chain-length links k (suc n) = ap suc (chain-length links (getD links k 0) n)
-
-pub chain-none : (links : List ℕ) (k n : ℕ) → n ≡ 0 → chain links k n ≡ []
-unfolding chain
-chain-none links k n e = rw e
-
--- a chain without its first number
-pub chain-pop : (links : List ℕ) (k n : ℕ) → (n ≡ 0 → ⊥) → chain links k n ≡ k ∷ chain links (getD links k 0) (n - 1)
-unfolding chain
-chain-pop links k zero h = absurd (h refl)
-chain-pop links k (suc n) h = let e : n ≡ suc n - 1 = omega arith in ap (λ x. k ∷ chain links (getD links k 0) x) e
-
--- a link of a number that is not in a chain may change
-chain-set : (links : List ℕ) (k n j v : ℕ) → count j (chain links k n) ≡ 0 → chain (set links j v) k n ≡ chain links k n
-unfolding chain
-chain-set links k zero j v h = refl
-chain-set links k (suc n) j v h = elim (ℕ-discrete k j) [
-  | yes e ↦ let q : one (eqb k j) ≡ 1 = ap one (eq-eqb k j e) in let z : ⊥ = omega arith in absurd z
-  | no e ↦ rw (getD-set-other links j k v 0 e) (ap (λ l. k ∷ l) (chain-set links (getD links k 0) n j v (omega arith)))
-]
-
--- a number before a chain that does not have it
-pub chain-push : (links : List ℕ) (k n j : ℕ) → j < length links → count j (chain links k n) ≡ 0 → chain (set links j k) j (n + 1) ≡ j ∷ chain links k n
-unfolding chain
-chain-push links k n j l h = rw (add-one n, getD-set-same links j k 0 l) (ap (λ l. j ∷ l) (chain-set links k n j k h))
-
-chain-up : (links : List ℕ) → Ascends links → (k n : ℕ) → k + n ≤ 256 → chain links k n ≡ upFrom k n
-unfolding chain
-chain-up links a k zero l = refl
-chain-up links a k (suc zero) l = refl
-chain-up links a k (suc (suc n)) l = rw (a .leads k (omega arith)) (ap (λ s. k ∷ s) (chain-up links a (suc k) (suc n) (omega arith)))
-
--- ---- the links
-
-pub ascends-more : (links : List ℕ) (k : ℕ) → k < length links → ((j : ℕ) → j < k → getD links j 0 ≡ suc j) → (j : ℕ) → j < k + 1 → getD (set links k (k + 1)) j 0 ≡ suc j
-ascends-more links k l f j h = elim (ℕ-discrete j k) [
-  | yes e ↦ rw (e, getD-set-same links k (k + 1) 0 l) (omega arith)
-  | no e ↦ getD-set-other links k j (k + 1) 0 e ∙ f j (omega arith)
-]
-
--- the free numbers, in their order
-abbrev pub free : OutgoingChannels → List ℕ
-free t = chain (t .links) (t .head) (t .left)
-
--- ---- new, open, handle_at, agreed_max
-
-abbrev pub table : Handles → List ℕ → ℕ → ℕ → ℕ → Bool → OutgoingChannels
-table sessions links head left highest b = record { sessions = sessions; links = links; head = head; left = left; highest = highest; opened = b }
-
-pub made : (t : Handles) (links : List ℕ) (head left highest : ℕ) → handlesSay t ≡ nowhere → Fresh (table t links head left highest false)
-unfolding agreedSays handOutSays takenSays
-made t links head left highest e = record { agreed = refl; hand-out = refl; taken = e }
-
-pub found : (self : OutgoingChannels) (k : ℕ) (o : Option ℕ) → o ≡ handlesSay (self .sessions) k → o ≡ takenSays self k
-unfolding takenSays
-found self k o e = e
+-- ---- agreed_max
 
 module _ (self : OutgoingChannels) where
   pub is-agreed : self .opened ≡ true → agreedMaxSays (Is (self .highest)) ≡ agreedSays self
@@ -177,126 +39,377 @@ module _ (self : OutgoingChannels) where
   unfolding agreedSays
   not-agreed e = rw e
 
-  pub opened : (links : List ℕ) (highest : ℕ) → Ascends links → highest < 256 → Opens self highest (table (self .sessions) links 0 (highest + 1) highest true)
-  unfolding agreedSays handOutSays takenSays
-  opened links highest a l = record { agreed = refl; hand-out = ap some (rw (add-one highest) (chain-up links a 0 (suc highest) (omega arith))); taken = refl }
+-- ---- what taking and freeing share
+
+-- a map that differs at one number
+pub with-map : (f g : Map) (k : ℕ) (v : Option ℕ) → g k ≡ v → ((n : ℕ) → (k ≡ n → ⊥) → g n ≡ f n) → g ≡ with f k v
+with-map f g k v e h = fun-ext (λ n. elim (ℕ-discrete k n) [
+  | yes q ↦ rw (eq-eqb k n q) (ap g (sym q) ∙ e)
+  | no q ↦ rw (ne-eqb k n q) (h n q)
+])
+
+same-agreed : (t t′ : OutgoingChannels) → t′ .opened ≡ t .opened → t′ .highest ≡ t .highest → agreedSays t′ ≡ agreedSays t
+unfolding agreedSays
+same-agreed t t′ a b = rw (a, b)
+
+shared-as : {a b : Option ℕ} {l m : Option (List ℕ)} {f g : Map} → a ≡ b → l ≡ m → f ≡ g → Shared b m g → Shared a l f
+shared-as p q r s = rw (p, q, r) s
+
+becomes :
+    (self : OutgoingChannels) (s : List ℕ) → Sound self s
+    → (t : OutgoingChannels) (s′ : List ℕ) → t .opened ≡ self .opened → t .highest ≡ self .highest → countsOk t ≡ true → Covers (suc (self .highest)) s′
+    → (l : Option (List ℕ)) (f : Map) → handOutSays t s′ ≡ l → takenSays t s′ ≡ f → Shared (agreedSays self) l f
+    → Becomes self t s′ l f
+becomes self s i t s′ a b w c l f p q r = record {
+  agreed = agreed;
+  hand-out = p;
+  taken = q;
+  sound = record { within = w; covered = omega arith; shared = shared-as agreed p q r };
+}
+  where
+    agreed : agreedSays t ≡ agreedSays self
+    agreed = same-agreed self t a b
 
 -- ---- allocate
 
-module _ (self : OutgoingChannels) (handle : ℕ) where
-  pub not-opened : self .opened ≡ false → Allocates self handle (record { answer = NotOpened; channels = self })
+module _ (self : OutgoingChannels) (s : List ℕ) (handle : ℕ) where
+  -- every number is taken, or the tables are no longer what they were
+  no-channel : (r : Allocation) → r ≡ record { answer = Full; channels = self } → (Sound self s → handOutSays self s ≡ some []) → Allocates self s handle r s
+  no-channel r e l = rw e (record {
+    answers = λ i. sym (ap nextOf (l i));
+    keeps = λ i ch rest q. let z : some [] ≡ some (ch ∷ rest) = sym (l i) ∙ q in apart (cc);
+    refused = λ k q. (refl, refl);
+    within = λ i. i;
+    same-highest = refl;
+    ties = ties-same self s;
+  })
+
+  pub not-opened : self .opened ≡ false → Allocates self s handle (record { answer = NotOpened; channels = self }) s
   unfolding handOutSays
   not-opened e = record {
-    answers = rw e;
-    keeps = λ ch rest q. let z : none ≡ some (ch ∷ rest) = (rw e at q) in apart (cc);
-    refused = λ k q. refl;
+    answers = λ i. rw e;
+    keeps = λ i ch rest q. let z : none ≡ some (ch ∷ rest) = (rw e at q) in apart (cc);
+    refused = λ k q. (refl, refl);
+    within = λ i. i;
+    same-highest = refl;
+    ties = ties-same self s;
   }
 
-  module _ (o : self .opened ≡ true) where
-    list-of : handOutSays self ≡ some (free self)
-    unfolding handOutSays
-    list-of = rw o
+  -- the number that leads the list is taken
+  hands-out :
+      (k : ℕ) (rest : List ℕ) (t : OutgoingChannels) → k ≤ self .highest
+      → t .opened ≡ self .opened → t .highest ≡ self .highest → (countsOk self ≡ true → countsOk t ≡ true)
+      → (Sound self s → handOutSays self s ≡ some (k ∷ rest))
+      → (Sound self s → handOutSays t (takenBy s k handle) ≡ some rest)
+      → (Sound self s → takenSays t (takenBy s k handle) ≡ with (takenSays self s) k (some handle))
+      → Allocates self s handle (record { answer = Channel k; channels = t }) (takenBy s k handle)
+  hands-out k rest t l a b w leads list map = record {
+    answers = λ i. sym (ap nextOf (leads i));
+    keeps = λ i ch others q.
+        let z : some (k ∷ rest) ≡ some (ch ∷ others) = sym (leads i) ∙ q in
+        let e : k ≡ ch = cc in
+        let f : rest ≡ others = cc in
+        rw (← e, ← f)
+        (becomes self s i t (takenBy s k handle) a b (w (i .within)) (covers-kept (suc (self .highest)) s (takenBy s k handle) (taken-long s k handle) (i .covered)) (some rest) (
+        with (takenSays self s) k (some handle)) (list i) (map i) (shared-take (agreedSays self) (handOutSays self s) (takenSays self s) k rest handle (leads i) (i .shared)));
+    refused = λ j q. apart (cc);
+    within = w;
+    same-highest = b;
+    ties = taken-ties s k handle self l;
+  }
 
-    pub full : self .left ≡ 0 → Allocates self handle (record { answer = Full; channels = self })
-    full e =
-        let l : handOutSays self ≡ some [] = list-of ∙ ap some (chain-none (self .links) (self .head) (self .left) e) in
-        record {
-          answers = sym (ap nextOf l);
-          keeps = λ ch rest q. let z : some [] ≡ some (ch ∷ rest) = sym l ∙ q in apart (cc);
-          refused = λ k q. refl;
-        }
+  -- ---- a number that was never handed out
 
-    pub taken-first :
-        (self .left ≡ 0 → ⊥) → (t : Handles) → handlesSay t ≡ with (handlesSay (self .sessions)) (self .head) (some handle)
-        → Allocates self handle (record { answer = Channel (self .head); channels = table t (self .links) (getD (self .links) (self .head) 0) (self .left - 1) (self .highest) (self .opened) })
-    unfolding agreedSays handOutSays takenSays
-    taken-first n t e =
-        let l : handOutSays self ≡ some (self .head ∷ chain (self .links) (getD (self .links) (self .head) 0) (self .left - 1)) = list-of ∙ ap some (chain-pop (self .links) (self .head) (self .left) n) in
-        record {
-          answers = sym (ap nextOf l);
-          keeps = λ ch rest q.
-              let z : some (self .head ∷ chain (self .links) (getD (self .links) (self .head) 0) (self .left - 1)) ≡ some (ch ∷ rest) = sym l ∙ q in
-              let h : self .head ≡ ch = cc in
-              let r : chain (self .links) (getD (self .links) (self .head) 0) (self .left - 1) ≡ rest = cc in
-              record { agreed = refl; hand-out = rw o (ap some r); taken = e ∙ ap (λ k. with (handlesSay (self .sessions)) k (some handle)) h };
-          refused = λ k q. apart (cc);
-        }
+  module _ (o : self .opened ≡ true) (z : self .freed ≡ 0) where
+    new-list : handOutSays self s ≡ some (upFrom (self .used) (suc (self .highest) - self .used))
+    new-list = list-of self s o ∙ ap (λ l. some (l ++ upFrom (self .used) (suc (self .highest) - self .used))) (chain-none s (self .head) (self .freed) z)
 
--- ---- what a sound table knows
+    module _ (w : ℕ) (e : w ≡ self .highest) where
+      pub new-full : w < self .used → (r : Allocation) → r ≡ record { answer = Full; channels = self } → Allocates self s handle r s
+      new-full l r q = no-channel r q (λ i. let n : suc (self .highest) - self .used ≡ 0 = omega arith in new-list ∙ ap (λ x. some (upFrom (self .used) x)) n)
 
-module _ (self : OutgoingChannels) (s : SharedBy self) where
-  shared-at : (b : Bool) → self .opened ≡ b → Shared (cond b (some (self .highest)) none) (cond b (some (free self)) none) (takenSays self)
-  unfolding agreedSays handOutSays
-  shared-at b o = subst (λ (b : Bool). Shared (cond b (some (self .highest)) none) (cond b (some (free self)) none) (takenSays self)) o s
+      module _ (l : self .used ≤ w) (b : Bool) (p : b ≡ hasPlace s (self .used)) where
+        pub new-short : b ≡ false → (r : Allocation) → r ≡ record { answer = Full; channels = self } → Allocates self s handle r s
+        new-short f r q = no-channel r q (λ i. absurd (has-false s (self .used) b p f (omega (arith, i .covered))))
 
-  pub once : self .opened ≡ true → EachOnce (self .highest) (free self) (takenSays self)
-  once o = shared-at true o
+        pub new-taken :
+            b ≡ true → (s″ : List ℕ) → s″ ≡ takenBy s (self .used) handle
+            → Allocates self s handle (record { answer = Channel (self .used); channels = counts (self .opened) (self .highest) (self .used + 1) (self .head) (self .freed) }) s″
+        new-taken f s″ x = rw x (hands-out (self .used) rest t′ (omega arith) refl refl within (λ i. leads) (λ i. list) (λ i. map))
+          where
+            c : Covers (suc (self .used)) s
+            c = has-true s (self .used) b p f
 
-  pub nothing-taken : self .opened ≡ false → takenSays self ≡ nowhere
-  nothing-taken o = shared-at false o
+            t′ : OutgoingChannels
+            t′ = counts (self .opened) (self .highest) (self .used + 1) (self .head) (self .freed)
 
-  -- how many are free, and how many are taken
-  pub all-numbers : self .opened ≡ true → self .highest < 256 → self .left + takenBelow 256 (takenSays self) ≡ suc (self .highest)
-  all-numbers o h = omega (arith, free-and-taken (self .highest) (free self) (takenSays self) (once o) 256 h, chain-length (self .links) (self .head) (self .left))
+            s′ : List ℕ
+            s′ = takenBy s (self .used) handle
+
+            rest : List ℕ
+            rest = upFrom (self .used + 1) (suc (self .highest) - self .used - 1)
+
+            within : countsOk self ≡ true → countsOk t′ ≡ true
+            within i =
+                let d = opened-limits self o i in
+                opened-within t′ o (record { low-head = d .low-head; low-freed = omega (arith, d .low-freed); low-used = omega arith })
+
+            leads : handOutSays self s ≡ some (self .used ∷ rest)
+            leads = new-list ∙ ap some (up-pop (self .used) (suc (self .highest) - self .used) (λ n. omega arith))
+
+            list : handOutSays t′ s′ ≡ some rest
+            list =
+                let n : suc (self .highest) - (self .used + 1) ≡ suc (self .highest) - self .used - 1 = omega arith in
+                list-of t′ s′ o
+                ∙ ap (λ x. some (x ++ upFrom (self .used + 1) (suc (self .highest) - (self .used + 1)))) (chain-none s′ (self .head) (self .freed) z)
+                ∙ ap (λ x. some (upFrom (self .used + 1) x)) n
+
+            same-bound : (n : ℕ) → (self .used ≡ n → ⊥) → ltb n (self .used + 1) ≡ ltb n (self .used)
+            same-bound n h = elim (decLe (self .used) n) [
+              | yes m ↦ le-ltb n (self .used + 1) (omega arith) ∙ sym (le-ltb n (self .used) m)
+              | no m ↦ lt-ltb n (self .used + 1) (omega arith) ∙ sym (lt-ltb n (self .used) (omega arith))
+            ]
+
+            map : takenSays t′ s′ ≡ with (takenSays self s) (self .used) (some handle)
+            map =
+                with-map (takenSays self s) (takenSays t′ s′) (self .used) (some handle)
+                (says-taken t′ s′ (self .used) handle (omega arith) (taken-link s (self .used) handle c) (taken-handle s (self .used) handle c))
+                (λ n h. says-same self s n t′ s′ (same-bound n h) (taken-apart s (self .used) handle n 0 (omega arith) h) (taken-apart s (self .used) handle n 1 (omega arith) h))
+
+  -- ---- a number that was freed
+
+  module _ (o : self .opened ≡ true) (n : self .freed ≡ 0 → ⊥) (w : ℕ) (e : w ≡ self .highest) where
+    pub freed-full : w < self .head → (r : Allocation) → r ≡ record { answer = Full; channels = self } → Allocates self s handle r s
+    freed-full l r q = no-channel r q (λ i. absurd (omega (arith, head-low self s i o n)))
+
+    module _ (l : self .head ≤ w) (b : Bool) (p : b ≡ hasPlace s (self .head)) where
+      pub freed-short : b ≡ false → (r : Allocation) → r ≡ record { answer = Full; channels = self } → Allocates self s handle r s
+      freed-short f r q = no-channel r q (λ i. absurd (has-false s (self .head) b p f (omega (arith, i .covered))))
+
+      module _ (f : b ≡ true) (next : ℕ) (d : next ≡ afterHead self s) (v : ℕ) (g : v ≡ self .highest) where
+        pub freed-astray : v < next → (r : Allocation) → r ≡ record { answer = Full; channels = self } → Allocates self s handle r s
+        freed-astray m r q = no-channel r q (λ i. absurd (omega (arith, after-low self s i o n)))
+
+        pub freed-taken :
+            next ≤ v → (s″ : List ℕ) → s″ ≡ takenBy s (self .head) handle
+            → Allocates self s handle (record { answer = Channel (self .head); channels = counts (self .opened) (self .highest) (self .used) next (self .freed - 1) }) s″
+        freed-taken m s″ x = rw x (hands-out k rest t′ (omega arith) refl refl within leads list map)
+          where
+            k : ℕ
+            k = self .head
+
+            c : Covers (suc k) s
+            c = has-true s k b p f
+
+            t′ : OutgoingChannels
+            t′ = counts (self .opened) (self .highest) (self .used) next (self .freed - 1)
+
+            s′ : List ℕ
+            s′ = takenBy s k handle
+
+            new : List ℕ
+            new = upFrom (self .used) (suc (self .highest) - self .used)
+
+            rest : List ℕ
+            rest = chain s (afterHead self s) (self .freed - 1) ++ new
+
+            within : countsOk self ≡ true → countsOk t′ ≡ true
+            within i =
+                let d = opened-limits self o i in
+                opened-within t′ o (record { low-head = omega arith; low-freed = omega (arith, d .low-freed); low-used = d .low-used })
+
+            leads : Sound self s → handOutSays self s ≡ some (k ∷ rest)
+            leads i = list-of self s o ∙ ap (λ l. some (l ++ new)) (follows self s i o n)
+
+            list : Sound self s → handOutSays t′ s′ ≡ some rest
+            list i =
+                list-of t′ s′ o
+                ∙ ap (λ x. some (chain s′ x (self .freed - 1) ++ new)) d
+                ∙ ap (λ x. some (x ++ new)) (chain-same s s′ k (afterHead self s) (self .freed - 1) (λ j h. taken-apart s k handle j 0 (omega arith) h) (head-alone self s i o n))
+
+            map : Sound self s → takenSays t′ s′ ≡ with (takenSays self s) k (some handle)
+            map i =
+                with-map (takenSays self s) (takenSays t′ s′) k (some handle)
+                (says-taken t′ s′ k handle (head-used self s i o n) (taken-link s k handle c) (taken-handle s k handle c))
+                (λ j h. says-same self s j t′ s′ refl (taken-apart s k handle j 0 (omega arith) h) (taken-apart s k handle j 1 (omega arith) h))
+
+-- the freed number after the first one
+module _ (self : OutgoingChannels) (s : List ℕ) where
+  pub after-none : self .freed ≤ 1 → 0 ≡ afterHead self s
+  after-none l = rw (le-leb (self .freed) 1 l)
+
+  pub after-one : 1 < self .freed → (x : ℕ) → x ≡ field s (self .head) 0 → x ≡ afterHead self s
+  after-one l x e = rw (lt-leb (self .freed) 1 l) e
+
+-- ---- handle_at
+
+module _ (self : OutgoingChannels) (s : List ℕ) (channel w : ℕ) (e : w ≡ channel) where
+  pub found-past : self .used ≤ w → Finds self s channel Nothing
+  found-past l = record { finds = λ i. sym (says-past self s channel (omega arith)); unused = λ m. refl }
+
+  -- a number that was handed out has a place
+  pub found-short : w < self .used → (b : Bool) → b ≡ hasPlace s w → b ≡ false → Finds self s channel Nothing
+  found-short l b p f = record { finds = λ i. absurd (has-false s w b p f (omega (arith, i .covered, used-low self (i .within)))); unused = λ m. refl }
+
+  module _ (l : w < self .used) (x : ℕ) (p : x ≡ field s w 0) where
+    pub found-free : (x ≡ 65536 → ⊥) → Finds self s channel Nothing
+    found-free q = record { finds = λ i. sym (says-free self s channel (omega arith) (λ a. q (p ∙ ap (λ k. field s k 0) e ∙ a))); unused = λ m. refl }
+
+    pub found-taken : x ≡ 65536 → (h : ℕ) → h ≡ field s w 1 → Finds self s channel (Handle h)
+    found-taken q h d = record {
+      finds = λ i. sym (says-taken self s channel h (omega arith) (ap (λ k. field s k 0) (sym e) ∙ sym p ∙ q) (ap (λ k. field s k 1) (sym e) ∙ sym d));
+      unused = λ m. absurd (omega arith);
+    }
 
 -- ---- deallocate
 
-module _ (self : OutgoingChannels) (channel : ℕ) where
+module _ (self : OutgoingChannels) where
+  pub no-next : self .freed ≡ 0 → 0 ≡ nextFree self
+  no-next e = rw (eq-eqb (self .freed) 0 e)
+
+  pub first-next : (self .freed ≡ 0 → ⊥) → self .head ≡ nextFree self
+  first-next e = rw (ne-eqb (self .freed) 0 e)
+
+-- the next free number is one of those up to the agreed channel-max, so it is not the link of a taken number
+next-low : (self : OutgoingChannels) (s : List ℕ) → Sound self s → self .opened ≡ true → self .highest < 65536 → nextFree self ≡ 65536 → ⊥
+next-low self s i o m e = elim (ℕ-discrete (self .freed) 0) [
+  | yes z ↦ omega (arith, no-next self z)
+  | no z ↦ omega (arith, first-next self z, head-low self s i o z)
+]
+
+chain-next : (self : OutgoingChannels) (s : List ℕ) → chain s (nextFree self) (self .freed) ≡ chain s (self .head) (self .freed)
+chain-next self s = elim (ℕ-discrete (self .freed) 0) [
+  | yes z ↦ chain-none s (nextFree self) (self .freed) z ∙ sym (chain-none s (self .head) (self .freed) z)
+  | no z ↦ ap (λ x. chain s x (self .freed)) (sym (first-next self z))
+]
+
+module _ (self : OutgoingChannels) (s : List ℕ) (channel : ℕ) where
   -- nothing is freed
-  kept : (SharedBy self → none ≡ takenSays self channel) → Frees self channel (record { answer = Nothing; channels = self })
-  kept n = record {
+  keeps-all : (r : Deallocation) → r ≡ record { answer = Nothing; channels = self } → (Sound self s → none ≡ takenSays self s channel) → Frees self s channel r s
+  keeps-all r e n = rw e (record {
     answers = n;
-    keeps = λ s h e. let z : none ≡ some h = n s ∙ e in apart (cc);
-    refused = λ q. refl;
-  }
+    keeps = λ i h q. let z : none ≡ some h = n i ∙ q in apart (cc);
+    refused = λ q. (refl, refl);
+    within = λ i. i;
+    same-highest = refl;
+    long = refl;
+    ties = λ i. ties-same self s;
+  })
 
-  all-free : self .highest < 256 → 255 < self .left → SharedBy self → (b : Bool) → self .opened ≡ b → none ≡ takenSays self channel
-  all-free h l s true o = none-taken (self .highest) (free self) (takenSays self) (once self s o) channel (omega (arith, chain-length (self .links) (self .head) (self .left)))
-  all-free h l s false o = sym (ap (λ f. f channel) (nothing-taken self s o))
+  pub freed-none : (a : Held) → Finds self s channel a → a ≡ Nothing → (r : Deallocation) → r ≡ record { answer = Nothing; channels = self } → Frees self s channel r s
+  freed-none a p q r e = keeps-all r e (λ i. sym (ap heldSays q) ∙ p .finds i)
 
-  pub freed-overfull : self .highest < 256 → 255 < self .left → Frees self channel (record { answer = Nothing; channels = self })
-  freed-overfull h l = kept (λ s. all-free h l s (self .opened) refl)
+  module _ (a : Held) (p : Finds self s channel a) (h : ℕ) (q : a ≡ Handle h) where
+    taken-is : Sound self s → takenSays self s channel ≡ some h
+    taken-is i = sym (p .finds i) ∙ ap heldSays q
 
-  pub freed-none : (a : Held) → heldSays a ≡ handlesSay (self .sessions) channel → a ≡ Nothing → Frees self channel (record { answer = Nothing; channels = self })
-  freed-none a e q = kept (λ s. found self channel none (sym (ap heldSays q) ∙ e))
+    one-more : Sound self s → self .freed < self .used
+    one-more i =
+        let t : isTaken (takenSays self s channel) ≡ 1 = ap isTaken (taken-is i) in
+        omega (
+          arith,
+          all-numbers self s i (suc (self .highest)) (omega arith),
+          taken-below (suc (self .highest)) channel (takenSays self s) (omega (arith, taken-low self s i channel h (taken-is i))),
+        )
 
-  pushed : SharedBy self → (h : ℕ) → takenSays self channel ≡ some h → channel < length (self .links) → (b : Bool) → self .opened ≡ b
-      → cond b (some (chain (set (self .links) channel (self .head)) channel (self .left + 1))) none ≡ freedFirst channel (cond b (some (free self)) none)
-  pushed s h e l true o = ap some (chain-push (self .links) (self .head) (self .left) channel l (taken-not-free (self .highest) (free self) (takenSays self) (once self s o) channel h e))
-  pushed s h e l false o = refl
-
-  -- a number that has a handle is one of the 256
-  module _ (long : length (self .sessions .held) ≡ 256) (a : Held) (e : heldSays a ≡ handlesSay (self .sessions) channel) (h : ℕ) (q : a ≡ Handle h) where
-    pub held-below : channel < 256
-    held-below = elim (decLe channel 255) [
-      | yes l ↦ omega arith
-      | no l ↦
-          let n : none ≡ handlesSay (self .sessions) channel = got-past (self .sessions) channel long (omega arith) in
-          apart (cc)
+    -- a number that has a handle was handed out
+    was-used : channel < self .used
+    was-used = elim (decLe (self .used) channel) [
+      | yes l ↦ let z = p .unused l in let y : heldSays a ≡ some h = ap heldSays q in apart (cc)
+      | no l ↦ omega arith
     ]
 
-    pub held-fits : Fits w8 channel
-    held-fits = record { fits = held-below }
+    pub freed-over : self .used ≤ self .freed → (r : Deallocation) → r ≡ record { answer = Nothing; channels = self } → Frees self s channel r s
+    freed-over l r e = keeps-all r e (λ i. absurd (omega (arith, one-more i)))
 
-    pub freed :
-        length (self .links) ≡ 256 → (t : Handles) → handlesSay t ≡ with (handlesSay (self .sessions)) channel none
-        → Frees self channel (record { answer = Handle h; channels = table t (set (self .links) channel (self .head)) channel (self .left + 1) (self .highest) (self .opened) })
-    unfolding agreedSays handOutSays takenSays
-    freed n t f = record {
-      answers = λ s. sym (ap heldSays q) ∙ e;
-      keeps = λ s k i. record { agreed = refl; hand-out = pushed s k i (omega (arith, held-below)) (self .opened) refl; taken = f };
-      refused = λ i. apart (cc);
-    }
+    module _ (l : self .freed < self .used) (w : ℕ) (e : w ≡ channel) (b : Bool) (t : b ≡ hasPlace s w) where
+      pub freed-uncovered : b ≡ false → (r : Deallocation) → r ≡ record { answer = Nothing; channels = self } → Frees self s channel r s
+      freed-uncovered f r d = keeps-all r d (λ i. absurd (has-false s w b t f (omega (arith, i .covered, taken-low self s i channel h (taken-is i)))))
+
+      pub freed :
+          b ≡ true → self .highest < 65536 → (next : ℕ) → next ≡ nextFree self
+          → (s″ : List ℕ) → s″ ≡ freedBefore s w next
+          → Frees self s channel (record { answer = Handle h; channels = counts (self .opened) (self .highest) (self .used) w (self .freed + 1) }) s″
+      freed f m next d s″ x = rw (x, e, d) (record {
+        answers = λ i. sym (taken-is i);
+        keeps = λ i k x.
+            becomes self s i t′ s′ refl refl (within (i .within)) (covers-kept (suc (self .highest)) s s′ (freed-long s channel (nextFree self)) (i .covered)) (freedFirst channel (handOutSays self s)) (
+            with (takenSays self s) channel none) (list i) (map i) (shared-give (agreedSays self) (handOutSays self s) (takenSays self s) channel k x (i .shared));
+        refused = λ x. apart (cc);
+        within = within;
+        same-highest = refl;
+        long = freed-long s channel (nextFree self);
+        ties = λ i. freed-ties s channel (nextFree self) self (omega (arith, was-used, used-low self i));
+      })
+        where
+          c : Covers (suc channel) s
+          c = omega (arith, has-true s w b t f)
+
+          t′ : OutgoingChannels
+          t′ = counts (self .opened) (self .highest) (self .used) channel (self .freed + 1)
+
+          s′ : List ℕ
+          s′ = freedBefore s channel (nextFree self)
+
+          new : List ℕ
+          new = upFrom (self .used) (suc (self .highest) - self .used)
+
+          -- where a number was handed out, the peer's Open has come
+          opened : countsOk self ≡ true → self .opened ≡ true
+          opened i = go (self .opened) refl
+            where
+              go : (b : Bool) → self .opened ≡ b → self .opened ≡ true
+              go true o = o
+              go false o = absurd (omega (arith, was-used, closed-limits self o i .no-used))
+
+          within : countsOk self ≡ true → countsOk t′ ≡ true
+          within i =
+              let d = opened-limits self (opened i) i in
+              opened-within t′ (opened i) (record { low-head = omega (arith, was-used, d .low-used); low-freed = omega arith; low-used = d .low-used })
+
+          link : field s′ channel 0 ≡ nextFree self
+          link = field-same s channel 0 (nextFree self) c (omega arith)
+
+          other : (j f : ℕ) → f < 7 → (channel ≡ j → ⊥) → field s′ j f ≡ field s j f
+          other j f l n = field-apart s channel 0 (nextFree self) j f (omega arith) l n
+
+          map : Sound self s → takenSays t′ s′ ≡ with (takenSays self s) channel none
+          map i =
+              with-map (takenSays self s) (takenSays t′ s′) channel none
+              (says-free t′ s′ channel was-used (λ x. next-low self s i (opened (i .within)) m (sym link ∙ x)))
+              (λ j n. says-same self s j t′ s′ refl (other j 0 (omega arith) n) (other j 1 (omega arith) n))
+
+          not-free : Sound self s → count channel (chain s (self .head) (self .freed)) ≡ 0
+          not-free i =
+              omega (
+                arith,
+                taken-not-free (self .highest) (chain s (self .head) (self .freed) ++ new) (takenSays self s) (once self s i (opened (i .within))) channel h (taken-is i),
+                count-append channel (chain s (self .head) (self .freed)) new,
+              )
+
+          chain-is : Sound self s → chain s′ channel (self .freed + 1) ≡ channel ∷ chain s (self .head) (self .freed)
+          chain-is i =
+              let n : self .freed + 1 - 1 ≡ self .freed = omega arith in
+              chain-pop s′ channel (self .freed + 1) (λ z. omega arith)
+              ∙ ap (λ x. channel ∷ chain s′ (field s′ channel 0) x) n
+              ∙ ap (λ x. channel ∷ chain s′ x (self .freed)) link
+              ∙ ap (λ l. channel ∷ l) (
+              chain-same s s′ channel (nextFree self) (self .freed) (λ j. other j 0 (omega arith)) (ap (count channel) (chain-next self s) ∙ not-free i)
+              ∙ chain-next self s
+              )
+
+          list : Sound self s → handOutSays t′ s′ ≡ freedFirst channel (handOutSays self s)
+          list i =
+              list-of t′ s′ (opened (i .within))
+              ∙ ap (λ x. some (x ++ new)) (chain-is i)
+              ∙ sym (ap (freedFirst channel) (list-of self s (opened (i .within))))
 
 -- ---- taken_count
 
 module _ (self : OutgoingChannels) where
-  pub counted-none : self .opened ≡ false → Counts self 0
-  counted-none o = record { counts = λ s. sym (none-below 256 (takenSays self) (nothing-taken self s o)) }
+  pub counted-over : self .used < self .freed → 0 ≡ self .used - self .freed
+  counted-over l = omega arith
 
-  module _ (o : self .opened ≡ true) (h : self .highest < 256) where
-    pub counted-over : self .highest + 1 < self .left → Counts self 0
-    counted-over l = record { counts = λ s. omega (arith, all-numbers self s o h) }
-
-    pub counted : self .left ≤ self .highest + 1 → Counts self (self .highest + 1 - self .left)
-    counted l = record { counts = λ s. omega (arith, all-numbers self s o h) }
+  -- how many of the numbers below n are taken, whatever n is beyond the agreed channel-max
+  pub counted : (s : List ℕ) → Sound self s → (n : ℕ) → suc (self .highest) ≤ n → self .used - self .freed ≡ takenBelow n (takenSays self s)
+  counted s i n m = omega (arith, all-numbers self s i n m)

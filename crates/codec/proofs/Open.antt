@@ -7,11 +7,8 @@ use mathlib.Core.Option.{Option, none, some}
 use Prim.Native.Nat.{ℕ, suc, _+_, _^_, _<_, _≤_}
 use native.Mathlib.Omega.{arith}
 use lib.ListN.{length, getD, length-append, List·getD-eq-default}
-use lib.Dec.{leb}
-use borrow.Author.Tests.{leb-true}
 use Rattle.octets.specs.Verdict.{accept}
 use Rattle.octets.specs.Octets.{bytesOf, startsWith}
-use Rattle.text.specs.Utf8.{utf8}
 use Rattle.values.specs.Null.{null}
 use Rattle.values.proofs.Written.{Whole, Each}
 use Rattle.serializer.specs.Written.{uint, ushort, text, joined, trimmed, compositeHeader, composite}
@@ -20,10 +17,10 @@ use Rattle.performatives.specs.Fields.{UShort, UInt, String, fieldsIn, fieldsOf
 use Rattle.performatives.specs.Performative.{fits, fit, numberOr, maxFrameSize, channelMax, idleTimeOut}
 use Rattle.frame_decoder.specs.Frame.{readFrame}
 use Rattle.frame_encoder.specs.Frames.{Settings, settingsOk, idleField, openFields, openBody, frameBytes}
-use Rattle.frame_encoder.proofs.Laws.{length-frame}
+use Rattle.frame_encoder.proofs.Laws.{length-frame, Within, settings-within}
 use Rattle.codec.specs.ReadBack.{frameOf, ReadBack, millis, OpenSays}
 use Rattle.codec.proofs.Values.{fits-present, null-whole, uint-whole, uint-number, uint-typed, uint-present, uint-short, ushort-whole, ushort-number, ushort-typed, ushort-present, string-whole, string-typed, string-present}
-use Rattle.codec.proofs.Trimmed.{and-was, trimmed-short, trimmed-field}
+use Rattle.codec.proofs.Trimmed.{trimmed-short, trimmed-field}
 use Rattle.codec.proofs.Frames.{rowsOf, readAs, composite-framed}
 
 -- ---- the idle-time-out
@@ -51,19 +48,8 @@ idle-number (some n) h = rw (uint-present n) (uint-number n h)
 -- ---- the fields
 
 module _ (s : Settings) (ok : settingsOk (s .containerId) (s .maxFrameSize) (s .channelMax) ≡ true) where
-  record Bounds : Type 0 where
-    id-short : length (s .containerId) ≤ 255
-    size-low : s .maxFrameSize ≤ 16384
-    channel-low : s .channelMax ≤ 255
-
-  bounds : Bounds
-  unfolding settingsOk
-  bounds =
-      let a = and-was (leb (length (s .containerId)) 255) _ ok in
-      let b = and-was (utf8 (s .containerId)) _ (a .1) in
-      let c = and-was (leb 512 (s .maxFrameSize)) _ (b .1) in
-      let d = and-was (leb (s .maxFrameSize) 16384) _ (c .1) in
-      record { id-short = leb-true _ _ (a .0); size-low = leb-true _ _ (d .0); channel-low = leb-true _ _ (d .1) }
+  bounds : Within (s .containerId) (s .maxFrameSize) (s .channelMax)
+  bounds = settings-within (s .containerId) (s .maxFrameSize) (s .channelMax) ok
 
   open-whole : Each (Whole 16) (openFields s)
   unfolding openFields
@@ -117,8 +103,8 @@ module _ (s : Settings) (ok : settingsOk (s .containerId) (s .maxFrameSize) (s .
         end = refl;
         container-id = at 0;
         hostname = at 1;
-        max-frame-size = ap (numberOr 4294967295) (at 2) ∙ rw (uint-present (s .maxFrameSize)) (uint-number (s .maxFrameSize) (omega (arith, bounds .size-low)));
-        channel-max = ap (numberOr 65535) (at 3) ∙ rw (ushort-present (s .channelMax)) (ushort-number (s .channelMax) (omega (arith, bounds .channel-low)));
+        max-frame-size = ap (numberOr 4294967295) (at 2) ∙ rw (uint-present (s .maxFrameSize)) (uint-number (s .maxFrameSize) (omega (arith, bounds .size-high)));
+        channel-max = ap (numberOr 65535) (at 3) ∙ rw (ushort-present (s .channelMax)) (ushort-number (s .channelMax) (omega (arith, bounds .channel-high)));
         idle-time-out = ap (numberOr 0) (at 4) ∙ idle-number (s .idleTimeOut) h;
         others = λ i k. at i ∙ List·getD-eq-default (openFields s) null k;
       }

@@ -1,7 +1,7 @@
 -- From a rule to a call: what a call does, when the definition has it come to this rule.
 -- Assumes nothing.
 use mathlib.Core.Path.{_≡_, refl, sym, _∙_, ap, subst, subst₂}
-use mathlib.Core.Bool.{Bool, true, false}
+use mathlib.Core.Bool.{true, false}
 use mathlib.Core.List.{List, [], _∷_}
 use Prim.Native.Nat.{ℕ}
 use native.Mathlib.Omega.{arith}
@@ -9,52 +9,67 @@ use types.Run.{OneOf, miss}
 use denote.Enum.Declared.{tagOf}
 use Rattle.octets.specs.Verdict.{Verdict, refuse, accept}
 use Rattle.octets.specs.Output.{laid}
-use Rattle.frame_encoder.specs.Frames.{Settings}
-use Rattle.connection_model.specs.Connection.{Role, Answer, Outcome, Call, decide, seen, next, lent, answered, after, written, fresh}
-use Rattle.connection_model.specs.Sound.{Reached}
-use Rattle.connection_model.proofs.Invariant.{reached-next, reached-fresh, shares}
-use Rattle.endpoint.specs.Promises.{Steps, Sends, Same, Begins, CountsSessions}
-use Rattle.endpoint.specs.declared.Endpoint.{Endpoint}
-use Rattle.endpoint.specs.declared.Role as R
-use Rattle.endpoint.specs.Answers as E
-use Rattle.endpoint.specs.Answers.{roleSays}
 use Rattle.octets.specs.declared.Written.{Written}
 use Rattle.octets.specs.declared.Written.the-variants.{Bytes, Refused}
 use Rattle.octets.proofs.Written.{the-type}
+use Rattle.connection_model.specs.Connection.{Answer, Outcome, Call, Effect, decide, next, lent, answered, after, written, says, apply}
+use Rattle.connection_model.specs.Sound.{Reached}
+use Rattle.connection_model.proofs.Invariant.{reached-next}
+use Rattle.channels.proofs.Kept.{covers-is}
 use Rattle.connection_state.specs.declared.ConnectionState.{ConnectionState}
-use Rattle.connection_state.specs.declared.ConnectionState.the-variants.{Start}
-use Rattle.local_open.specs.declared.NewOpen.{NewOpen}
-use Rattle.local_open.specs.Settings.{allowed, checkSays, checked, orSmallest, openSays}
-use Rattle.local_open.proofs.Laws.{or-smallest-allowed}
+use Rattle.local_open.specs.Settings.{allowed}
+use Rattle.endpoint.specs.Answers as A
+use Rattle.endpoint.specs.Answers.{placesOf}
+use Rattle.endpoint.specs.Promises as E
+use Rattle.endpoint.proofs.Basics.{same-all}
 use Rattle.connection.specs.declared.Connection.{Connection}
-use Rattle.connection.specs.View.{roleOf, settingsOf, viewOf, Sound}
-use Rattle.connection.specs.Promises.{Meets, Does, Makes, Counts, Reads, movedTo, movedIf}
+use Rattle.connection.specs.View.{Whole, whole, endpointIn, roleOf, settingsOf, viewOf, Sound}
+use Rattle.connection.specs.Promises.{Does, DoesIn, Reads, isCovered, roomOf, movedTo, movedIf}
+
+-- two numbers that are not the same
+pub apart : {A : Type 0} → _≡_ {A = ℕ} 0 1 → A
+apart z = absurd (omega arith)
+
+not-both : {A : Type 0} → true ≡ false → A
+not-both e = apart (cc)
 
 -- what the definition has a call come to
-abbrev pub comesTo : Connection → Call → Verdict Outcome
-comesTo c call = decide (roleOf c) (settingsOf c) (viewOf c) call
+abbrev pub comesTo : Whole → Call → Verdict Outcome
+comesTo w call = decide (roleOf w) (settingsOf w) (viewOf w) call
 
-sound-after : (call : Call) (c d : Connection) → Sound c → settingsOf d ≡ settingsOf c → viewOf d ≡ next (roleOf c) (settingsOf c) (viewOf c) call → Sound d
-sound-after call c d s e p = record {
-  fine = subst (λ S. allowed S ≡ true) (sym e) (s .fine);
-  reached = subst₂ Reached (sym e) (sym p) (reached-next (roleOf c) (settingsOf c) (viewOf c) call (s .reached));
+-- ---- soundness
+
+pub sound-next :
+    (call : Call) (w v : Whole) → Sound w → E.Sound (endpointIn v) → settingsOf v ≡ settingsOf w → viewOf v ≡ next (roleOf w) (settingsOf w) (viewOf w) call → Sound v
+sound-next call w v z h e p = record {
+  fine = subst (λ S. allowed S ≡ true) (sym e) (z .fine);
+  held = h;
+  reached = subst₂ Reached (sym e) (sym p) (reached-next (roleOf w) (settingsOf w) (viewOf w) call (z .reached));
 }
 
+-- a sound one has a place for each channel
+pub sound-covered : (w : Whole) → Sound w → isCovered w ≡ true
+sound-covered w z = covers-is (placesOf (w .connection .endpoint)) (w .tables) (z .held .covered)
+
+pub unsound : {A : Type 0} (w : Whole) → isCovered w ≡ false → Sound w → A
+unsound w e z = not-both (sym (sound-covered w z) ∙ e)
+
+-- ---- calls
+
 pub does :
-    (call : Call) (c d : Connection) (rule : Verdict Outcome) (a : Verdict Answer) (out : List ℕ) → (Sound c → comesTo c call ≡ rule) → (Sound c → a ≡ answered rule)
-    → (Sound c → out ≡ laid (written rule) (lent call)) → (Sound c → viewOf d ≡ after (settingsOf c) rule (viewOf c)) → roleOf d ≡ roleOf c
-    → settingsOf d ≡ settingsOf c → ((k : ℕ) → a ≡ refuse k → (d ≡ c) × (out ≡ lent call)) → Does call c a out d
-does call c d rule a out e p o l r s f = record {
+    (call : Call) (w v : Whole) (rule : Verdict Outcome) (a : Verdict Answer) (out : List ℕ) → (Sound w → comesTo w call ≡ rule) → (Sound w → a ≡ answered rule)
+    → (Sound w → out ≡ laid (written rule) (lent call)) → (Sound w → viewOf v ≡ after (settingsOf w) rule (viewOf w)) → (Sound w → E.Sound (endpointIn v))
+    → E.Same (endpointIn w) (endpointIn v) → ((k : ℕ) → a ≡ refuse k → (v ≡ w) × (out ≡ lent call)) → Does call w a out v
+does call w v rule a out e p o l h s f = record {
   meets = λ z.
       let q = e z in
-      let v : viewOf d ≡ next (roleOf c) (settingsOf c) (viewOf c) call = l z ∙ ap (λ u. after (settingsOf c) u (viewOf c)) (sym q) in
+      let g : viewOf v ≡ next (roleOf w) (settingsOf w) (viewOf w) call = l z ∙ ap (λ u. after (settingsOf w) u (viewOf w)) (sym q) in
       record {
         draws = λ i. record { answer = (p z ∙ ap answered (sym q)) i; output = (o z ∙ ap (λ u. laid (written u) (lent call)) (sym q)) i };
-        leaves = v;
-        sound = sound-after call c d z s v;
+        leaves = g;
+        sound = sound-next call w v z (h z) (s .same-settings) g;
       };
-  same-role = r;
-  same-settings = s;
+  same = s;
   refused = f;
 }
 
@@ -62,20 +77,48 @@ laid-not : (k : ℕ) (out : List ℕ) → out ≡ laid (refuse k) out
 unfolding laid
 laid-not k out = refl
 
+pub same-as : (w v : Whole) → v ≡ w → E.Same (endpointIn w) (endpointIn v)
+same-as w v q = subst (λ u. E.Same (endpointIn w) (endpointIn u)) (sym q) (same-all (endpointIn w))
+
+pub held-as : (w v : Whole) → v ≡ w → E.Sound (endpointIn w) → E.Sound (endpointIn v)
+held-as w v q h = subst (λ u. E.Sound (endpointIn u)) (sym q) h
+
 -- a refusal leaves everything as it is
-pub refuses : (call : Call) (c d : Connection) (k : ℕ) (a : Verdict Answer) (out : List ℕ) → (Sound c → comesTo c call ≡ refuse k) → a ≡ refuse k → d ≡ c → out ≡ lent call → Does call c a out d
-refuses call c d k a out e p q o =
-    does call c d (refuse k) a out e (λ z. p) (λ z. o ∙ laid-not k (lent call)) (λ z. ap viewOf q) (ap roleOf q) (ap settingsOf q) (λ j w. (q, o))
+pub refuses : (call : Call) (w v : Whole) (k : ℕ) (a : Verdict Answer) (out : List ℕ) → (Sound w → comesTo w call ≡ refuse k) → a ≡ refuse k → v ≡ w → out ≡ lent call → Does call w a out v
+refuses call w v k a out e p q o =
+    does call w v (refuse k) a out e (λ z. p) (λ z. o ∙ laid-not k (lent call)) (λ z. ap viewOf q) (λ z. held-as w v q (z .held)) (same-as w v q) (λ j u. (q, o))
+
+-- ---- calls that are lent the tables
+
+-- these are long enough
+pub covered-does : (call : Call) (w v : Whole) (a : Verdict Answer) (out : List ℕ) → roomOf call ≡ true → isCovered w ≡ true → Does call w a out v → DoesIn call w a out v
+covered-does call w v a out m c d = record { does = d; roomless = λ n. not-both (sym m ∙ n); uncovered = λ r n. not-both (sym c ∙ n) }
+
+-- the output is not, and is judged before them
+pub roomless-does : (call : Call) (w v : Whole) (a : Verdict Answer) (out : List ℕ) → roomOf call ≡ false → a ≡ refuse 9 → Does call w a out v → DoesIn call w a out v
+roomless-does call w v a out m p d = record { does = d; roomless = λ n. p; uncovered = λ r n. not-both (sym r ∙ m) }
+
+-- they are too short: 8, and nothing changes
+pub uncovered-refuses : (call : Call) (w v : Whole) (a : Verdict Answer) (out : List ℕ) → roomOf call ≡ true → isCovered w ≡ false → a ≡ refuse 8 → v ≡ w → out ≡ lent call → DoesIn call w a out v
+uncovered-refuses call w v a out m n p q o = record {
+  does = refuses call w v 8 a out (unsound w n) p q o;
+  roomless = λ f. not-both (sym m ∙ f);
+  uncovered = λ r u. p;
+}
 
 -- ---- what an endpoint did, of the connection
 
-pub stepped : (c : Connection) (rule : Verdict Outcome) (a : Verdict Answer) (e : Endpoint) → Steps rule (c .endpoint) a e → Reads rule c a (record { «local_state» = c .«local_state»; endpoint = e })
-stepped c rule a e s = record {
-  reads-says = s .says;
-  reads-leaves = s .leaves _;
-  reads-role = s .same .same-role;
-  reads-settings = s .same .same-settings;
-  reads-refused = λ k p. ap (λ w. record { «local_state» = c .«local_state»; endpoint = w }) (s .refused k p);
+-- the connection in a state, with an endpoint and what that is lent
+abbrev pub standing : ConnectionState → A.Whole → Whole
+standing x w = whole (record { «local_state» = x; endpoint = w .endpoint }) (w .tables) (w .id)
+
+pub stepped : (w : Whole) (rule : Verdict Outcome) (a : Verdict Answer) (v : A.Whole) → E.Step rule (endpointIn w) a v → Reads rule w a (standing (w .connection .«local_state») v)
+stepped w rule a v s = record {
+  reads-says = λ z. s .says (z .held);
+  reads-leaves = λ z. s .leaves (z .held) _;
+  reads-held = λ z. s .sound (z .held);
+  reads-same = s .same;
+  reads-refused = λ k p. ap (standing (w .connection .«local_state»)) (s .refused k p);
 }
 
 -- ---- calls that write nothing
@@ -84,36 +127,42 @@ stepped c rule a e s = record {
 pub record Quiet (rule : Verdict Outcome) : Type 0 where
   pub silent : [] ≡ laid (written rule) []
 
-pub reads-does : (call : Call) (c d : Connection) (rule : Verdict Outcome) (a : Verdict Answer) → lent call ≡ [] → Quiet rule → (Sound c → comesTo c call ≡ rule) → Reads rule c a d → Does call c a [] d
-reads-does call c d rule a l q e r =
-    does call c d rule a [] e (λ z. r .reads-says) (λ z. q .silent ∙ ap (laid (written rule)) (sym l)) (λ z. r .reads-leaves) (r .reads-role) (r .reads-settings)
+pub reads-does : (call : Call) (w v : Whole) (rule : Verdict Outcome) (a : Verdict Answer) → lent call ≡ [] → Quiet rule → (Sound w → comesTo w call ≡ rule) → Reads rule w a v → Does call w a [] v
+reads-does call w v rule a l q e r =
+    does call w v rule a [] e (r .reads-says) (λ z. q .silent ∙ ap (laid (written rule)) (sym l)) (r .reads-leaves) (r .reads-held) (r .reads-same)
     (λ k p. (r .reads-refused k p, sym l))
 
--- ---- a new connection
+-- the rule refuses
+pub refused-reads : (rule : Verdict Outcome) (w v : Whole) (k : ℕ) (a : Verdict Answer) → (Sound w → rule ≡ refuse k) → a ≡ refuse k → v ≡ w → Reads rule w a v
+refused-reads rule w v k a e p q = record {
+  reads-says = λ z. p ∙ sym (ap answered (e z));
+  reads-leaves = λ z. ap viewOf q ∙ sym (ap (λ u. after (settingsOf w) u (viewOf w)) (e z));
+  reads-held = λ z. held-as w v q (z .held);
+  reads-same = same-as w v q;
+  reads-refused = λ j u. q;
+}
 
-pub makes :
-    (role : R.Role) (S : Settings) (r : NewOpen) (e : Endpoint) → (checkSays (r .answer) ≡ checked S) × (openSays (r .«open») ≡ orSmallest S) → Begins role (r .«open») e
-    → Makes (roleSays role) S (r .answer) (record { «local_state» = Start; endpoint = e })
-makes role S r e p b =
-    let s : E.settingsOf e ≡ orSmallest S = b .begins-settings ∙ p .1 in
-    record {
-      checks = p .0;
-      made-role = b .begins-role;
-      made-settings = s;
-      made-fresh = b .begins-fresh;
-      made-sound = record {
-        fine = subst (λ T. allowed T ≡ true) (sym s) (or-smallest-allowed S);
-        reached = subst (Reached (E.settingsOf e)) (sym (b .begins-fresh)) (reached-fresh (E.settingsOf e));
-      };
-    }
+-- it accepts
+pub accepted-reads :
+    (rule : Verdict Outcome) (w v : Whole) (b : Answer) (x : Effect) → (Sound w → rule ≡ says b x) → (Sound w → viewOf v ≡ apply (settingsOf w) x (viewOf w))
+    → (Sound w → E.Sound (endpointIn v)) → E.Same (endpointIn w) (endpointIn v) → Reads rule w (accept b) v
+accepted-reads rule w v b x e l h s = record {
+  reads-says = λ z. sym (ap answered (e z));
+  reads-leaves = λ z. l z ∙ sym (ap (λ u. after (settingsOf w) u (viewOf w)) (e z));
+  reads-held = h;
+  reads-same = s;
+  reads-refused = λ k u. apart (cc);
+}
 
--- ---- a count
+-- ---- a move of the state, that leaves endpoint and tables as they are
 
-pub counts-taken : (c : Connection) (n : ℕ) → CountsSessions (c .endpoint) n → Counts c n
-counts-taken c n e = record { counts = λ z. e .counts (shares (z .reached)) }
+pub moved-held : (c d : Connection) (t id : List ℕ) (x : ConnectionState) → d ≡ movedTo c x → E.Sound (endpointIn (whole c t id)) → E.Sound (endpointIn (whole d t id))
+moved-held c d t id x q h = subst (λ u. E.Sound (endpointIn (whole u t id))) (sym q) h
 
--- ---- a move, by what was written
+pub moved-same : (c d : Connection) (t id : List ℕ) (x : ConnectionState) → d ≡ movedTo c x → E.Same (endpointIn (whole c t id)) (endpointIn (whole d t id))
+moved-same c d t id x q = subst (λ u. E.Same (endpointIn (whole c t id)) (endpointIn (whole u t id))) (sym q) (same-all (endpointIn (whole c t id)))
 
+-- by what was written
 pub moved-told : (c d : Connection) (a : Written) (x : ConnectionState) → OneOf (0 ∷ []) (tagOf the-type a) → d ≡ movedTo c x → d ≡ movedIf a c x
 moved-told c d (Bytes n) x o p = p
 moved-told c d (Refused k) x o p = absurd (miss (0 ∷ []) 1 tt o)

@@ -2,7 +2,7 @@
 pub mod Calls
 pub mod Writing
 pub mod Reading
-pub mod Sessions
+pub mod Tables
+pub mod Making
 pub mod Runs
 pub mod Theorem
-pub mod Bytes

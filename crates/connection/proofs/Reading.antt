@@ -8,42 +8,53 @@ use Prim.Native.Nat.{ℕ, _≤_, _<_, min}
 use native.Mathlib.Omega.{arith}
 use types.Run.{OneOf, miss}
 use denote.Enum.Declared.{tagOf}
-use lib.Dec.{eqb}
-use borrow.Author.Tests.{eqb-true}
+use lib.Dec.{leb, eqb}
+use borrow.Author.Tests.{eqb-true, le-leb}
 use Rattle.octets.specs.Verdict.{Verdict, refuse, accept, require, andThen}
 use Rattle.octets.specs.Output.{laid}
-use Rattle.octets.proofs.Laws.{then-accept, then-refuse}
-use Rattle.performatives.specs.Performative.{Performative, Said, said, valuesIn, valuesOf, maxFrameSize, channelMax, idleTimeOut, remoteChannel, condition}
+use Rattle.octets.proofs.Laws.{require-on, then-accept, then-refuse}
+use Rattle.performatives.specs.Performative.{Performative, said, valuesIn, valuesOf, maxFrameSize, channelMax, idleTimeOut, remoteChannel, condition}
 use Rattle.frame_decoder.specs.Frame.{Frame, FrameSaid, readFrame, saidOf, frameSaid}
 use Rattle.frame_decoder.specs.Answers.{frameAnswer, endingAt, frameSays}
+use Rattle.frame_decoder.specs.declared.Frame as F
 use Rattle.frame_decoder.specs.declared.Frame.the-variants.{Refused, Empty, Body}
 use Rattle.frame_decoder.proofs.Laws.{frame-was, read-was}
 use Rattle.performatives.specs.declared.Performative as P
 use Rattle.performatives.specs.declared.Performative.the-variants.{Open, Begin, Attach, Flow, Transfer, Disposition, Detach, End, Close}
+use Rattle.performatives.specs.declared.Condition.{Condition}
 use Rattle.performatives.specs.Answers.{performativeSays, conditionSays}
 use Rattle.performatives.proofs.Performative.{the-type}
-use Rattle.protocol_header.specs.Header.{Protocol, amqp100, other}
+use Rattle.protocol_header.specs.Header.{Protocol, amqp100, other, received}
+use Rattle.protocol_header.specs.Answers as H
+use Rattle.protocol_header.specs.declared.HeaderRead.{HeaderRead}
+use Rattle.protocol_header.specs.declared.HeaderRead.the-variants.{Amqp, Other, Malformed, Missing}
+use Rattle.protocol_header.specs.declared.ProtocolHeader.{ProtocolHeader as HeaderStruct}
 use Rattle.frame_encoder.specs.Frames.{Settings}
-use Rattle.connection_state.specs.States.{State, Move, Discarding, is, isOneOf, along, reading, receiveHeader, receiveOtherHeader, readOpen, readClose}
-use Rattle.connection_model.specs.Connection as M
-use Rattle.connection_model.specs.Connection.{Role, Answer, Outcome, says, stay, nothingToDo, hasError, openRead, closeRead, begun, sessionRead, performativeRead, frameRead, written, go, agree, header, otherProtocol, opened, closed, clamped, apply, answered, after}
-use Rattle.performatives.specs.declared.Condition.{Condition}
+use Rattle.connection_state.specs.States.{State, Move, Discarding, is, isOneOf, along, reading, beforeOpen, receiveHeader, receiveOtherHeader, readOpen, readClose}
 use Rattle.connection_state.specs.declared.ConnectionState.{ConnectionState}
 use Rattle.connection_state.specs.declared.Moved.{Moved}
 use Rattle.connection_state.specs.declared.Moved.the-variants.{To, Illegal}
 use Rattle.connection_state.specs.Answers.{stateSays, movedSays}
+use Rattle.connection_model.specs.Connection as M
+use Rattle.connection_model.specs.Connection.{Role, Answer, Outcome, receiveHeaderFrom, headed, says, stay, nothingToDo, hasError, openRead, closeRead, begun, sessionRead, performativeRead, frameRead, go, agree, header, otherProtocol, opened, closed, clamped}
+use Rattle.connection_model.proofs.Rules.{accepted, on-along, opens, and-left, true-is}
+use Rattle.connection_model.proofs.Invariant.{before-open}
 use Rattle.endpoint.specs.declared.Endpoint.{Endpoint}
+use Rattle.endpoint.specs.declared.Incoming.{Incoming}
 use Rattle.endpoint.specs.declared.Routed.{Routed}
 use Rattle.endpoint.specs.declared.FrameAnswer.the-variants.{Refused as NoFrame}
-use Rattle.endpoint.specs.Answers.{answerSays}
-use Rattle.endpoint.specs.Promises.{Steps, Agrees, Same}
+use Rattle.endpoint.specs.Answers as A
+use Rattle.endpoint.specs.Answers.{placesOf, frameOf, answerSays}
+use Rattle.endpoint.specs.Promises as E
+use Rattle.endpoint.proofs.Opening.{Agrees, agrees-with}
+use Rattle.endpoint.proofs.Basics.{same-all}
 use Rattle.connection.specs.declared.Connection.{Connection}
 use Rattle.connection.specs.declared.ReceivedHeader.{ReceivedHeader}
 use Rattle.connection.specs.declared.ReceivedFrame.{ReceivedFrame}
 use Rattle.connection.specs.declared.HeaderAnswer.the-variants.{Refused as NoHeader}
-use Rattle.connection.specs.View.{roleOf, settingsOf, viewOf, headerSays}
-use Rattle.connection.specs.Promises.{Reads, movedTo, openSaid, saidRead}
-use Rattle.connection.proofs.Calls.{Quiet, stepped}
+use Rattle.connection.specs.View.{Whole, whole, endpointIn, roleOf, settingsOf, viewOf, Sound, headerSays}
+use Rattle.connection.specs.Promises.{Does, Reads, ReadsIn, ReadsBy, movedTo, bareSays, openSaid, saidRead}
+use Rattle.connection.proofs.Calls.{refuses, Quiet, reads-does, stepped, refused-reads, accepted-reads, moved-held, moved-same}
 
 -- ---- a performative, by what is said of it
 
@@ -143,6 +154,17 @@ empty-comes limit highest s ch size from role S c h e =
     by-none f none p q = ap (λ n. says (nothingToDo n) stay) p
     by-none f (some x) p q = let z : _≡_ {A = ℕ} 0 1 = cc in absurd (omega arith)
 
+-- ---- which frame it is
+
+pub bare-not : (r : F.Frame) (k : ℕ) → r ≡ Refused k → refuse k ≡ bareSays r
+bare-not r k e = sym (ap bareSays e)
+
+pub bare-empty : (r : F.Frame) (ch size from : ℕ) → r ≡ Empty ch size from → accept (nothingToDo size) ≡ bareSays r
+bare-empty r ch size from e = sym (ap bareSays e)
+
+pub bare-body : (r : F.Frame) (ch size from end : ℕ) (p : P.Performative) → r ≡ Body ch size from p end → accept (nothingToDo size) ≡ bareSays r
+bare-body r ch size from end p e = sym (ap bareSays e)
+
 -- ---- which performative it is not
 
 pub not-close : (p : P.Performative) → OneOf (0 ∷ 1 ∷ 2 ∷ 3 ∷ 4 ∷ 5 ∷ 6 ∷ 7 ∷ []) (tagOf the-type p) → eqb (performativeSays p .0) 24 ≡ false
@@ -194,7 +216,7 @@ quiet-cond : (b : Bool) (u v : Verdict Outcome) → Quiet u → Quiet v → Quie
 quiet-cond true u v p q = p
 quiet-cond false u v p q = q
 
-pub quiet-headed : (c : M.Connection) (p : Protocol) → Quiet (M.headed c p)
+pub quiet-headed : (c : M.Connection) (p : Protocol) → Quiet (headed c p)
 quiet-headed c amqp100 = quiet-then _ _ (λ x. quiet-says _ _)
 quiet-headed c (other h) = quiet-then _ _ (λ x. quiet-says _ _)
 
@@ -254,96 +276,134 @@ NoHeaderAs k c s = (s .answer ≡ NoHeader k) × (s .connection ≡ c)
 abbrev pub NoFrameAs : ℕ → Connection → ReceivedFrame → Type 0
 NoFrameAs k c s = (s .answer ≡ NoFrame k) × (s .connection ≡ c)
 
+-- nothing is agreed in a state that the peer's Open leads on from
+unagreed : (w : Whole) (x : State) → Sound w → along readOpen (viewOf w .state) ≡ accept x → viewOf w .agreedMax ≡ none
+unagreed w x z e =
+    let t = accepted (on-along opens readOpen tt (viewOf w .state)) e in
+    ap (λ c. c .agreedMax) (before-open (z .reached) (true-is (isOneOf beforeOpen (viewOf w .state)) (and-left (isOneOf beforeOpen (viewOf w .state)) _ t)))
+
 module _ (c : Connection) where
-  pub rejected : (rule : Verdict Outcome) (k : ℕ) (v : Verdict Answer) (d : Connection) → rule ≡ refuse k → v ≡ refuse k → d ≡ c → Reads rule c v d
-  rejected rule k v d e p q = record {
-    reads-says = p ∙ sym (ap answered e);
-    reads-leaves = ap viewOf q ∙ sym (ap (λ u. after (settingsOf c) u (viewOf c)) e);
-    reads-role = ap roleOf q;
-    reads-settings = ap settingsOf q;
-    reads-refused = λ j u. q;
-  }
-
-  accepted : (rule : Verdict Outcome) (a : Answer) (e : M.Effect) (d : Connection) → rule ≡ says a e → viewOf d ≡ apply (settingsOf c) e (viewOf c) → roleOf d ≡ roleOf c → settingsOf d ≡ settingsOf c
-      → Reads rule c (accept a) d
-  accepted rule a e d r v p s = record {
-    reads-says = sym (ap answered r);
-    reads-leaves = v ∙ sym (ap (λ u. after (settingsOf c) u (viewOf c)) r);
-    reads-role = p;
-    reads-settings = s;
-    reads-refused = λ k u. let z : _≡_ {A = ℕ} 0 1 = cc in absurd (omega arith);
-  }
-
   -- a move, or 20
-  module _ (table : List Move) (a : Answer) (m : Moved) (p : movedSays m ≡ along table (viewOf c .state)) where
-    moved : (next : ConnectionState) (d : Connection) → m ≡ To next → d ≡ movedTo c next → Reads (andThen (along table (viewOf c .state)) (λ x. says a (go x))) c (accept a) d
-    moved next d i q = accepted _ a (go (stateSays next)) d (then-accept _ _ _ (sym p ∙ ap movedSays i)) (ap viewOf q) (ap roleOf q) (ap settingsOf q)
+  module _ (table : List Move) (a : Answer) (m : Moved) (p : movedSays m ≡ along table (stateSays (c .«local_state»))) where
+    moved : (next : ConnectionState) (d : Connection) → m ≡ To next → d ≡ movedTo c next → ReadsBy (λ w. andThen (along table (viewOf w .state)) (λ x. says a (go x))) c (accept a) d
+    moved next d i q t id =
+        accepted-reads _ (whole c t id) (whole d t id) a (go (stateSays next)) (λ z. then-accept _ _ _ (sym p ∙ ap movedSays i)) (λ z. ap (λ u. viewOf (whole u t id)) q)
+        (λ z. moved-held c d t id next q (z .held)) (moved-same c d t id next q)
 
-    unmoved : (v : Verdict Answer) (d : Connection) → m ≡ Illegal → v ≡ refuse 20 → d ≡ c → Reads (andThen (along table (viewOf c .state)) (λ x. says a (go x))) c v d
-    unmoved v d i r q = rejected _ 20 v d (then-refuse _ _ 20 (sym p ∙ ap movedSays i)) r q
+    unmoved : (v : Verdict Answer) (d : Connection) → m ≡ Illegal → v ≡ refuse 20 → d ≡ c → ReadsBy (λ w. andThen (along table (viewOf w .state)) (λ x. says a (go x))) c v d
+    unmoved v d i r q t id =
+        refused-reads _ (whole c t id) (whole d t id) 20 v (λ z. then-refuse _ _ 20 (sym p ∙ ap movedSays i)) r (ap (λ u. whole u t id) q)
 
   -- a header
-  pub amqp-moved : (m : Moved) (next : ConnectionState) (d : Connection) → m ≡ To next → movedSays m ≡ along receiveHeader (viewOf c .state) → d ≡ movedTo c next
-      → Reads (M.headed (viewOf c) amqp100) c (accept (header 8)) d
+  pub amqp-moved : (m : Moved) (next : ConnectionState) (d : Connection) → m ≡ To next → movedSays m ≡ along receiveHeader (stateSays (c .«local_state»)) → d ≡ movedTo c next
+      → ReadsBy (λ w. headed (viewOf w) amqp100) c (accept (header 8)) d
   amqp-moved m next d i p q = moved receiveHeader (header 8) m p next d i q
 
-  pub amqp-not : (m : Moved) (s : ReceivedHeader) → NoHeaderAs 20 c s → m ≡ Illegal → movedSays m ≡ along receiveHeader (viewOf c .state) → Reads (M.headed (viewOf c) amqp100) c (headerSays (s .answer)) (s .connection)
+  pub amqp-not : (m : Moved) (s : ReceivedHeader) → NoHeaderAs 20 c s → m ≡ Illegal → movedSays m ≡ along receiveHeader (stateSays (c .«local_state»))
+      → ReadsBy (λ w. headed (viewOf w) amqp100) c (headerSays (s .answer)) (s .connection)
   amqp-not m s r i p = unmoved receiveHeader (header 8) m p _ _ i (ap headerSays (r .0)) (r .1)
 
-  pub other-moved : (m : Moved) (next : ConnectionState) (d : Connection) → m ≡ To next → movedSays m ≡ along receiveOtherHeader (viewOf c .state) → d ≡ movedTo c next
-      → Reads (andThen (along receiveOtherHeader (viewOf c .state)) (λ x. says (otherProtocol 8) (go x))) c (accept (otherProtocol 8)) d
+  pub other-moved : (m : Moved) (next : ConnectionState) (d : Connection) → m ≡ To next → movedSays m ≡ along receiveOtherHeader (stateSays (c .«local_state»)) → d ≡ movedTo c next
+      → ReadsBy (λ w. andThen (along receiveOtherHeader (viewOf w .state)) (λ x. says (otherProtocol 8) (go x))) c (accept (otherProtocol 8)) d
   other-moved m next d i p q = moved receiveOtherHeader (otherProtocol 8) m p next d i q
 
-  pub other-not : (m : Moved) (s : ReceivedHeader) → NoHeaderAs 20 c s → m ≡ Illegal → movedSays m ≡ along receiveOtherHeader (viewOf c .state)
-      → Reads (andThen (along receiveOtherHeader (viewOf c .state)) (λ x. says (otherProtocol 8) (go x))) c (headerSays (s .answer)) (s .connection)
+  pub other-not : (m : Moved) (s : ReceivedHeader) → NoHeaderAs 20 c s → m ≡ Illegal → movedSays m ≡ along receiveOtherHeader (stateSays (c .«local_state»))
+      → ReadsBy (λ w. andThen (along receiveOtherHeader (viewOf w .state)) (λ x. says (otherProtocol 8) (go x))) c (headerSays (s .answer)) (s .connection)
   other-not m s r i p = unmoved receiveOtherHeader (otherProtocol 8) m p _ _ i (ap headerSays (r .0)) (r .1)
 
   -- the peer's Close
   module _ (f : Frame) (b : Bool) where
-    pub close-moved : (m : Moved) (next : ConnectionState) (d : Connection) → m ≡ To next → movedSays m ≡ along readClose (viewOf c .state) → d ≡ movedTo c next
-        → Reads (closeRead (viewOf c) f b) c (accept (closed (f .size) b)) d
+    pub close-moved : (m : Moved) (next : ConnectionState) (d : Connection) → m ≡ To next → movedSays m ≡ along readClose (stateSays (c .«local_state»)) → d ≡ movedTo c next
+        → ReadsBy (λ w. closeRead (viewOf w) f b) c (accept (closed (f .size) b)) d
     close-moved m next d i p q = moved readClose (closed (f .size) b) m p next d i q
 
-    pub close-not : (m : Moved) (s : ReceivedFrame) → NoFrameAs 20 c s → m ≡ Illegal → movedSays m ≡ along readClose (viewOf c .state) → Reads (closeRead (viewOf c) f b) c (answerSays (s .answer)) (s .connection)
+    pub close-not : (m : Moved) (s : ReceivedFrame) → NoFrameAs 20 c s → m ≡ Illegal → movedSays m ≡ along readClose (stateSays (c .«local_state»))
+        → ReadsBy (λ w. closeRead (viewOf w) f b) c (answerSays (s .answer)) (s .connection)
     close-not m s r i p = unmoved readClose (closed (f .size) b) m p _ _ i (ap answerSays (r .0)) (r .1)
 
   -- the peer's Open
-  module _ (f : Frame) (size most idle : ℕ) (m : Moved) (p : movedSays m ≡ along readOpen (viewOf c .state)) where
-    pub open-agreed : (next : ConnectionState) (e : Endpoint) → m ≡ To next → Agrees (c .endpoint) size most e
-        → Reads (openRead (settingsOf c) (viewOf c) f size most idle) c (accept (opened (f .size) idle)) (record { «local_state» = next; endpoint = e })
-    open-agreed next e i g =
-        accepted _ _ (agree (stateSays next) (min (settingsOf c .channelMax) most) (clamped size)) _ (then-accept _ _ _ (sym p ∙ ap movedSays i)) (g .agrees (viewOf c .state) (stateSays next))
-        (g .agrees-same .same-role) (g .agrees-same .same-settings)
+  module _ (f : Frame) (size most idle : ℕ) (m : Moved) (p : movedSays m ≡ along readOpen (stateSays (c .«local_state»))) where
+    pub open-agreed :
+        (next : ConnectionState) (e : Endpoint) → m ≡ To next → e ≡ E.agreedWith size most (c .endpoint)
+        → ReadsBy (λ w. openRead (settingsOf w) (viewOf w) f size most idle) c (accept (opened (f .size) idle)) (record { «local_state» = next; endpoint = e })
+    open-agreed next e i new t id =
+        let w = whole c t id in
+        let g : Agrees size most (A.whole (c .endpoint) t id) (A.whole e t id) = subst (λ x. Agrees size most (A.whole (c .endpoint) t id) (A.whole x t id)) (sym new) (agrees-with (c .endpoint) size most t id) in
+        let r : along readOpen (viewOf w .state) ≡ accept (stateSays next) = sym p ∙ ap movedSays i in
+        accepted-reads _ w _ _ (agree (stateSays next) (min (settingsOf w .channelMax) most) (clamped size)) (λ z. then-accept _ _ _ r)
+        (λ z. g .agrees (z .held) (unagreed w _ z r) (viewOf w .state) (stateSays next)) (λ z. g .agrees-sound (z .held) (unagreed w _ z r)) (g .agrees-same)
 
-    pub open-not : (s : ReceivedFrame) → NoFrameAs 20 c s → m ≡ Illegal → Reads (openRead (settingsOf c) (viewOf c) f size most idle) c (answerSays (s .answer)) (s .connection)
-    open-not s r i = rejected _ 20 _ _ (then-refuse _ _ 20 (sym p ∙ ap movedSays i)) (ap answerSays (r .0)) (r .1)
+    pub open-not : (s : ReceivedFrame) → NoFrameAs 20 c s → m ≡ Illegal → ReadsBy (λ w. openRead (settingsOf w) (viewOf w) f size most idle) c (answerSays (s .answer)) (s .connection)
+    open-not s r i t id =
+        refused-reads _ (whole c t id) _ 20 _ (λ z. then-refuse _ _ 20 (sym p ∙ ap movedSays i)) (ap answerSays (r .0)) (ap (λ u. whole u t id) (r .1))
 
-  -- a session's frame
-  pub session-routed : (rule : Verdict Outcome) (r : Routed) → Steps rule (c .endpoint) (answerSays (r .answer)) (r .endpoint)
-      → Reads rule c (answerSays (r .answer)) (record { «local_state» = c .«local_state»; endpoint = r .endpoint })
-  session-routed rule r s = stepped c rule _ _ s
+  -- a session's frame, on a channel that the peer may use
+  pub session-routed :
+      (t : List ℕ) (i : Incoming) (h code : ℕ) (rs : List ℕ) (r : Routed) (t′ : List ℕ) → i .channel < placesOf (c .endpoint)
+      → E.Steps (λ w. require 7 (leb (i .channel) (A.settingsOf w .channelMax)) (λ _. sessionRead (A.roleOf w) (A.viewAs (stateSays (c .«local_state»)) w) (frameOf i) h code rs)) (c .endpoint) t (answerSays (r .answer)) (r .endpoint) t′
+      → ReadsIn (λ w. sessionRead (roleOf w) (viewOf w) (frameOf i) h code rs) c t (answerSays (r .answer)) (record { «local_state» = c .«local_state»; endpoint = r .endpoint }) t′
+  session-routed t i h code rs r t′ l s id =
+      subst (λ rule. Reads rule (whole c t id) (answerSays (r .answer)) (whole (record { «local_state» = c .«local_state»; endpoint = r .endpoint }) t′ id))
+      (require-on 7 _ _ (le-leb (i .channel) (c .endpoint .«local_open» .«channel_max») (omega arith))) (stepped (whole c t id) _ _ (A.whole (r .endpoint) t′ id) (s id))
 
   -- by kind
-  module _ (f : Frame) (h : ℕ) (p : P.Performative) where
-    abbrev byKind : Verdict Outcome
-    byKind = saidRead (roleOf c) (settingsOf c) (viewOf c) f h (performativeSays p .0) (performativeSays p .1)
+  module _ (t : List ℕ) (f : Frame) (h : ℕ) (p : P.Performative) where
+    abbrev byKind : Whole → Verdict Outcome
+    byKind w = saidRead (roleOf w) (settingsOf w) (viewOf w) f h (performativeSays p .0) (performativeSays p .1)
 
-    pub by-close : (a : Verdict Answer) (d : Connection) (e : Condition) (b : Bool) → p ≡ Close e → b ≡ hasError (conditionSays e) → Reads (closeRead (viewOf c) f b) c a d → Reads byKind c a d
-    by-close a d e b q w r =
-        subst (λ k. Reads (saidRead (roleOf c) (settingsOf c) (viewOf c) f h (performativeSays k .0) (performativeSays k .1)) c a d) (sym q) (subst (λ x. Reads (closeRead (viewOf c) f x) c a d) w r)
+    pub by-close :
+        (a : Verdict Answer) (d : Connection) (e : Condition) (b : Bool) → p ≡ Close e → b ≡ hasError (conditionSays e) → ReadsBy (λ w. closeRead (viewOf w) f b) c a d → ReadsIn byKind c t a d t
+    by-close a d e b q v r id =
+        let w = whole c t id in
+        subst (λ k. Reads (saidRead (roleOf w) (settingsOf w) (viewOf w) f h (performativeSays k .0) (performativeSays k .1)) w a (whole d t id)) (sym q)
+        (subst (λ x. Reads (closeRead (viewOf w) f x) w a (whole d t id)) v (r t id))
 
-    pub by-discarding : OneOf (0 ∷ 1 ∷ 2 ∷ 3 ∷ 4 ∷ 5 ∷ 6 ∷ 7 ∷ []) (tagOf the-type p) → (b : Bool) → b ≡ is Discarding (viewOf c .state) → b ≡ true → Reads byKind c (accept (nothingToDo (f .size))) c
-    by-discarding n b e x = accepted byKind _ stay c (rw (not-close p n, sym e, x)) refl refl refl
+    pub by-discarding : OneOf (0 ∷ 1 ∷ 2 ∷ 3 ∷ 4 ∷ 5 ∷ 6 ∷ 7 ∷ []) (tagOf the-type p) → (b : Bool) → b ≡ is Discarding (stateSays (c .«local_state»)) → b ≡ true → ReadsIn byKind c t (accept (nothingToDo (f .size))) c t
+    by-discarding n b e x id =
+        accepted-reads (byKind (whole c t id)) (whole c t id) (whole c t id) _ stay (λ z. rw (not-close p n, sym e, x)) (λ z. refl) (λ z. z .held) (same-all (endpointIn (whole c t id)))
 
-    pub by-open : (a : Verdict Answer) (d : Connection) (size most idle : ℕ) → p ≡ Open size most idle → (b : Bool) → b ≡ is Discarding (viewOf c .state) → b ≡ false → Reads (openRead (settingsOf c) (viewOf c) f size most idle) c a d
-        → Reads byKind c a d
-    by-open a d size most idle q b e y r =
-        let x : is Discarding (viewOf c .state) ≡ false = sym e ∙ y in
-        subst (λ k. Reads (saidRead (roleOf c) (settingsOf c) (viewOf c) f h (performativeSays k .0) (performativeSays k .1)) c a d) (sym q)
-        (subst (λ b. Reads (cond b (says (nothingToDo (f .size)) stay) (openRead (settingsOf c) (viewOf c) f size most idle)) c a d) (sym x) r)
+    pub by-open :
+        (a : Verdict Answer) (d : Connection) (size most idle : ℕ) → p ≡ Open size most idle → (b : Bool) → b ≡ is Discarding (stateSays (c .«local_state»)) → b ≡ false
+        → ReadsBy (λ w. openRead (settingsOf w) (viewOf w) f size most idle) c a d → ReadsIn byKind c t a d t
+    by-open a d size most idle q b e y r id =
+        let w = whole c t id in
+        let x : is Discarding (viewOf w .state) ≡ false = sym e ∙ y in
+        subst (λ k. Reads (saidRead (roleOf w) (settingsOf w) (viewOf w) f h (performativeSays k .0) (performativeSays k .1)) w a (whole d t id)) (sym q)
+        (subst (λ b. Reads (cond b (says (nothingToDo (f .size)) stay) (openRead (settingsOf w) (viewOf w) f size most idle)) w a (whole d t id)) (sym x) (r t id))
 
     pub by-session :
-        (a : Verdict Answer) (d : Connection) → OneOf (0 ∷ 1 ∷ 2 ∷ 3 ∷ 4 ∷ 5 ∷ 6 ∷ 7 ∷ []) (tagOf the-type p) → (b : Bool) → b ≡ is Discarding (viewOf c .state) → b ≡ false
+        (t′ : List ℕ) (a : Verdict Answer) (d : Connection) → OneOf (0 ∷ 1 ∷ 2 ∷ 3 ∷ 4 ∷ 5 ∷ 6 ∷ 7 ∷ []) (tagOf the-type p) → (b : Bool) → b ≡ is Discarding (stateSays (c .«local_state»)) → b ≡ false
         → OneOf (1 ∷ 2 ∷ 3 ∷ 4 ∷ 5 ∷ 6 ∷ 7 ∷ 8 ∷ []) (tagOf the-type p)
-        → Reads (sessionRead (roleOf c) (viewOf c) f h (performativeSays p .0) (performativeSays p .1)) c a d → Reads byKind c a d
-    by-session a d n b e y m r = subst (λ u. Reads u c a d) (sym (rw (not-close p n, sym e, y, not-open p m))) r
+        → ReadsIn (λ w. sessionRead (roleOf w) (viewOf w) f h (performativeSays p .0) (performativeSays p .1)) c t a d t′ → ReadsIn byKind c t a d t′
+    by-session t′ a d n b e y m r id = subst (λ u. Reads u (whole c t id) a (whole d t′ id)) (sym (rw (not-close p n, sym e, y, not-open p m))) (r id)
+
+-- ---- a header that comes
+
+module _ (c : Connection) (s : List ℕ) (r : HeaderRead) (e : H.headerSays r ≡ received s) where
+  pub header-amqp : (a : Verdict Answer) (d : Connection) → r ≡ Amqp → ReadsBy (λ w. headed (viewOf w) amqp100) c a d → (t id : List ℕ) → Does (receiveHeaderFrom s) (whole c t id) a [] (whole d t id)
+  unfolding H.headerSays
+  header-amqp a d p q t id =
+      let w = whole c t id in
+      reads-does (receiveHeaderFrom s) w (whole d t id) (headed (viewOf w) amqp100) a refl (quiet-headed (viewOf w) amqp100)
+      (λ z. then-accept (received s) (headed (viewOf w)) amqp100 (sym e ∙ ap H.headerSays p)) (q t id)
+
+  pub header-other :
+      (h : HeaderStruct) (a : Verdict Answer) (d : Connection) → r ≡ Other h → ReadsBy (λ w. andThen (along receiveOtherHeader (viewOf w .state)) (λ x. says (otherProtocol 8) (go x))) c a d
+      → (t id : List ℕ) → Does (receiveHeaderFrom s) (whole c t id) a [] (whole d t id)
+  unfolding H.headerSays
+  header-other h a d p q t id =
+      let w = whole c t id in
+      reads-does (receiveHeaderFrom s) w (whole d t id) (headed (viewOf w) (other (H.headerOf h))) a refl (quiet-headed (viewOf w) (other (H.headerOf h)))
+      (λ z. then-accept (received s) (headed (viewOf w)) (other (H.headerOf h)) (sym e ∙ ap H.headerSays p)) (q t id)
+
+  header-not : (k : ℕ) (x : ReceivedHeader) → H.headerSays r ≡ refuse k → NoHeaderAs k c x → (t id : List ℕ) → Does (receiveHeaderFrom s) (whole c t id) (headerSays (x .answer)) [] (whole (x .connection) t id)
+  header-not k x p q t id =
+      refuses (receiveHeaderFrom s) (whole c t id) _ k _ [] (λ z. then-refuse (received s) _ k (sym e ∙ p)) (ap headerSays (q .0)) (ap (λ d. whole d t id) (q .1)) refl
+
+  pub header-malformed : (x : ReceivedHeader) → NoHeaderAs 2 c x → r ≡ Malformed → (t id : List ℕ) → Does (receiveHeaderFrom s) (whole c t id) (headerSays (x .answer)) [] (whole (x .connection) t id)
+  unfolding H.headerSays
+  header-malformed x q p = header-not 2 x (ap H.headerSays p) q
+
+  pub header-missing : (x : ReceivedHeader) → NoHeaderAs 1 c x → r ≡ Missing → (t id : List ℕ) → Does (receiveHeaderFrom s) (whole c t id) (headerSays (x .answer)) [] (whole (x .connection) t id)
+  unfolding H.headerSays
+  header-missing x q p = header-not 1 x (ap H.headerSays p) q

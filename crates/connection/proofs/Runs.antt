@@ -1,7 +1,10 @@
--- Runs of the code: what a caller can see who makes connections with the constructors and hands them from method to method.
+-- Runs of the code: what a caller can see who makes connections with the constructors and hands them from method to method, with the tables and the container-id that belong to each.
 --
 -- `NAMEReads.Learnt` is the contract of a method, as the checker has it from the source: what a caller learns of the arguments, the result and the last values of what was lent. A step's only evidence is that the contract of its own
 -- method holds; nothing else is said here of what a method answers.
+--
+-- What goes from step to step is a connection with its tables and its container-id. A call that is lent the tables finds them as the last such call left them, and one that is not leaves them: nobody else writes the tables meanwhile. That they
+-- are long enough need not be said, since a constructor refuses tables that are too short with 8, and no call changes their length. What is lent are slices of bytes that memory can hold.
 -- Assumes nothing: these are definitions.
 use mathlib.Core.Path.{_≡_}
 use mathlib.Core.Bool.{true}
@@ -17,11 +20,11 @@ use Rattle.frame_encoder.specs.Frames.{Settings}
 use Rattle.frame_encoder.specs.Answers.{settings, errorText}
 use Rattle.connection_model.specs.Connection as M
 use Rattle.connection_model.specs.Connection.{Role, Answer, Call, Seen}
-use Rattle.connection_model.specs.Callers.{isValid}
-use Rattle.endpoint.specs.Answers.{answerSays, sentSays, deallocateSays}
-use Rattle.local_open.specs.Settings.{orSmallest}
+use Rattle.connection_model.specs.Callers.{isSlice, isValid}
+use Rattle.endpoint.specs.Answers.{answerSays, sentSays}
 use Rattle.connection.specs.declared.Connection.{Connection}
-use Rattle.connection.specs.View.{headerSays, tickSays, allocateSays}
+use Rattle.connection.specs.declared.NewConnection.the-variants.{Made}
+use Rattle.connection.specs.View.{Whole, whole, headerSays, tickSays, allocateSays, freedSays}
 use Rattle.connection.proofs.Connection.send_header.Reads as SendHeaderReads
 use Rattle.connection.proofs.Connection.send_header.Kinds as SendHeaderKinds
 use Rattle.connection.proofs.Connection.receive_header.Reads as ReceiveHeaderReads
@@ -63,7 +66,7 @@ abbrev pub ReceiveHeader : Type 0
 ReceiveHeader = Returned 1 ReceiveHeaderKinds.ps ReceiveHeaderKinds.r ReceiveHeaderReads.Learnt
 
 abbrev pub SendOpen : Type 0
-SendOpen = Returned 1 SendOpenKinds.ps SendOpenKinds.r SendOpenReads.Learnt
+SendOpen = Returned 2 SendOpenKinds.ps SendOpenKinds.r SendOpenReads.Learnt
 
 abbrev pub SendClose : Type 0
 SendClose = Returned 1 SendCloseKinds.ps SendCloseKinds.r SendCloseReads.Learnt
@@ -75,64 +78,73 @@ abbrev pub Tick : Type 0
 Tick = Returned 1 TickKinds.ps TickKinds.r TickReads.Learnt
 
 abbrev pub Allocate : Type 0
-Allocate = Returned 0 AllocateKinds.ps AllocateKinds.r AllocateReads.Learnt
+Allocate = Returned 1 AllocateKinds.ps AllocateKinds.r AllocateReads.Learnt
 
 abbrev pub Deallocate : Type 0
-Deallocate = Returned 0 DeallocateKinds.ps DeallocateKinds.r DeallocateReads.Learnt
+Deallocate = Returned 1 DeallocateKinds.ps DeallocateKinds.r DeallocateReads.Learnt
 
 abbrev pub SendSessionFrame : Type 0
-SendSessionFrame = Returned 2 SendSessionFrameKinds.ps SendSessionFrameKinds.r SendSessionFrameReads.Learnt
+SendSessionFrame = Returned 3 SendSessionFrameKinds.ps SendSessionFrameKinds.r SendSessionFrameReads.Learnt
 
 abbrev pub ReceiveFrame : Type 0
-ReceiveFrame = Returned 1 ReceiveFrameKinds.ps ReceiveFrameKinds.r ReceiveFrameReads.Learnt
+ReceiveFrame = Returned 2 ReceiveFrameKinds.ps ReceiveFrameKinds.r ReceiveFrameReads.Learnt
 
 abbrev pub Dialler : Type 0
-Dialler = Returned 1 DiallerKinds.ps DiallerKinds.r DiallerReads.Learnt
+Dialler = Returned 2 DiallerKinds.ps DiallerKinds.r DiallerReads.Learnt
 
 abbrev pub Listener : Type 0
-Listener = Returned 1 ListenerKinds.ps ListenerKinds.r ListenerReads.Learnt
+Listener = Returned 2 ListenerKinds.ps ListenerKinds.r ListenerReads.Learnt
 
--- one call of the code: a method was called, and this is what its caller sees
-pub data Step : Call → Connection → Verdict Answer → List ℕ → Connection → Type 0 where
-  send-header-step : (x : SendHeader)
-      → Step (M.sendHeaderTo (now (x .args .1 .0))) (x .args .0) (sentSays (x .result .answer)) (now (x .exits .1 .0)) (x .result .connection)
-  receive-header-step : (x : ReceiveHeader)
-      → Step (M.receiveHeaderFrom (now (x .args .1 .0))) (x .args .0) (headerSays (x .result .answer)) ([]) (x .result .connection)
-  send-open-step : (x : SendOpen)
-      → Step (M.sendOpenTo (now (x .args .1 .0))) (x .args .0) (sentSays (x .result .answer)) (now (x .exits .1 .0)) (x .result .connection)
-  send-close-step : (x : SendClose)
-      → Step (M.sendCloseTo none (now (x .args .1 .0))) (x .args .0) (sentSays (x .result .answer)) (now (x .exits .1 .0)) (x .result .connection)
-  send-close-with-error-step : (x : SendCloseWithError)
-      → Step (M.sendCloseTo (some (errorText (now (x .args .1 .0)) (x .args .1 .1 .0) (now (x .args .1 .1 .1 .0)))) (now (x .args .1 .1 .1 .1 .0))) (x .args .0) (sentSays (x .result .answer)) (now (x .exits .1 .1 .1 .1 .0)) (x .result .connection)
-  tick-step : (x : Tick)
-      → Step (M.tick (now (x .args .1 .0))) (x .args .0) (tickSays (x .result .answer)) (now (x .exits .1 .0)) (x .result .connection)
-  allocate-session-step : (x : Allocate)
-      → Step (M.allocate (x .args .1 .0)) (x .args .0) (allocateSays (x .result .answer)) ([]) (x .result .connection)
-  deallocate-session-step : (x : Deallocate)
-      → Step (M.deallocate (x .args .1 .0)) (x .args .0) (deallocateSays (x .result .answer)) ([]) (x .result .connection)
-  send-session-frame-step : (x : SendSessionFrame)
-      → Step (M.sendSessionFrame (now (x .args .1 .0)) (now (x .args .1 .1 .0))) (x .args .0) (sentSays (x .result .answer)) (now (x .exits .1 .1 .0)) (x .result .connection)
-  receive-frame-step : (x : ReceiveFrame)
-      → Step (M.receiveFrame (now (x .args .1 .0)) (x .args .1 .1 .0)) (x .args .0) (answerSays (x .result .answer)) ([]) (x .result .connection)
+-- one call of the code: a method was called, and this is what its caller sees. Where it was lent no tables, or no container-id, these are whatever they are
+pub data Step : Call → Whole → Verdict Answer → List ℕ → Whole → Type 0 where
+  send-header-step : (x : SendHeader) (t id : List ℕ)
+      → Step (M.sendHeaderTo (now (x .args .1 .0))) (whole (x .args .0) t id) (sentSays (x .result .answer)) (now (x .exits .1 .0)) (whole (x .result .connection) t id)
+  receive-header-step : (x : ReceiveHeader) (t id : List ℕ)
+      → Step (M.receiveHeaderFrom (now (x .args .1 .0))) (whole (x .args .0) t id) (headerSays (x .result .answer)) [] (whole (x .result .connection) t id)
+  send-open-step : (x : SendOpen) (t : List ℕ)
+      → Step (M.sendOpenTo (now (x .args .1 .1 .0))) (whole (x .args .0) t (now (x .args .1 .0))) (sentSays (x .result .answer)) (now (x .exits .1 .1 .0)) (whole (x .result .connection) t (now (x .args .1 .0)))
+  send-close-step : (x : SendClose) (t id : List ℕ)
+      → Step (M.sendCloseTo none (now (x .args .1 .0))) (whole (x .args .0) t id) (sentSays (x .result .answer)) (now (x .exits .1 .0)) (whole (x .result .connection) t id)
+  send-close-with-error-step : (x : SendCloseWithError) (t id : List ℕ)
+      → Step (M.sendCloseTo (some (errorText (now (x .args .1 .0)) (x .args .1 .1 .0) (now (x .args .1 .1 .1 .0)))) (now (x .args .1 .1 .1 .1 .0))) (whole (x .args .0) t id) (sentSays (x .result .answer)) (now (x .exits .1 .1 .1 .1 .0)) (whole (x .result .connection) t id)
+  tick-step : (x : Tick) (t id : List ℕ)
+      → Step (M.tick (now (x .args .1 .0))) (whole (x .args .0) t id) (tickSays (x .result .answer)) (now (x .exits .1 .0)) (whole (x .result .connection) t id)
+  allocate-session-step : (x : Allocate) (id : List ℕ)
+      → Step (M.allocate (x .args .1 .1 .0)) (whole (x .args .0) (now (x .args .1 .0)) id) (allocateSays (x .result .answer)) [] (whole (x .result .connection) (now (x .exits .1 .0)) id)
+  deallocate-session-step : (x : Deallocate) (id : List ℕ)
+      → Step (M.deallocate (x .args .1 .1 .0)) (whole (x .args .0) (now (x .args .1 .0)) id) (freedSays (x .result .answer)) [] (whole (x .result .connection) (now (x .exits .1 .0)) id)
+  send-session-frame-step : (x : SendSessionFrame) (id : List ℕ)
+      → Step (M.sendSessionFrame (now (x .args .1 .1 .0)) (now (x .args .1 .1 .1 .0))) (whole (x .args .0) (now (x .args .1 .0)) id) (sentSays (x .result .answer)) (now (x .exits .1 .1 .1 .0)) (whole (x .result .connection) (now (x .exits .1 .0)) id)
+  receive-frame-step : (x : ReceiveFrame) (id : List ℕ)
+      → Step (M.receiveFrame (now (x .args .1 .1 .0)) (x .args .1 .1 .1 .0)) (whole (x .args .0) (now (x .args .1 .0)) id) (answerSays (x .result .answer)) [] (whole (x .result .connection) (now (x .exits .1 .0)) id)
 
--- a connection that a constructor made; where its settings were refused, it has the smallest
-pub data New : Role → Settings → Connection → Type 0 where
-  dialled : (x : Dialler) → New M.dialler (orSmallest (settings (now (x .args .0)) (x .args .1 .0) (x .args .1 .1 .0) (x .args .1 .1 .1 .0))) (x .result .connection)
-  listened : (x : Listener) → New M.listener (orSmallest (settings (now (x .args .0)) (x .args .1 .0) (x .args .1 .1 .0) (x .args .1 .1 .1 .0))) (x .result .connection)
+-- tables and container-id are slices of bytes that memory can hold
+pub record Slices (w : Whole) : Type 0 where
+  pub tables-slice : isSlice (w .tables) ≡ true
+  pub id-slice : isSlice (w .id) ≡ true
 
--- a list of calls, each given the connection that the last one gave back
-pub data Runs : List Call → Connection → List Seen → Connection → Type 0 where
-  done : {c : Connection} → Runs [] c [] c
-  then : {call : Call} {calls : List Call} {c d e : Connection} {a : Verdict Answer} {out : List ℕ} {seens : List Seen}
-      → Step call c a out d → Runs calls d seens e → Runs (call ∷ calls) c (record { answer = a; output = out } ∷ seens) e
+-- a connection that a constructor made, with the tables as the constructor left them
+pub data New : Role → Settings → Whole → Type 0 where
+  dialled : (x : Dialler) (c : Connection) → x .result ≡ Made c → Slices (whole c (now (x .exits .1 .1 .1 .1 .0)) (now (x .args .0)))
+      → New M.dialler (settings (now (x .args .0)) (x .args .1 .0) (x .args .1 .1 .0) (x .args .1 .1 .1 .0)) (whole c (now (x .exits .1 .1 .1 .1 .0)) (now (x .args .0)))
+  listened : (x : Listener) (c : Connection) → x .result ≡ Made c → Slices (whole c (now (x .exits .1 .1 .1 .1 .0)) (now (x .args .0)))
+      → New M.listener (settings (now (x .args .0)) (x .args .1 .0) (x .args .1 .1 .0) (x .args .1 .1 .1 .0)) (whole c (now (x .exits .1 .1 .1 .1 .0)) (now (x .args .0)))
+
+-- a list of calls, each given the connection that the last one gave back, with its tables and its container-id
+pub data Runs : List Call → Whole → List Seen → Whole → Type 0 where
+  done : {w : Whole} → Runs [] w [] w
+  then : {call : Call} {calls : List Call} {w v u : Whole} {a : Verdict Answer} {out : List ℕ} {seens : List Seen}
+      → Step call w a out v → isSlice (v .tables) ≡ true → Runs calls v seens u → Runs (call ∷ calls) w (record { answer = a; output = out } ∷ seens) u
 
 -- ---- that every method returns on every argument, which is what it is for it to be proved
 
-pub record Next (call : Call) (c : Connection) : Type 0 where
+pub record Next (call : Call) (w : Whole) : Type 0 where
   pub answer : Verdict Answer
   pub output : List ℕ
-  pub later : Connection
-  pub step : Step call c answer output later
+  pub later : Whole
+  pub step : Step call w answer output later
+  -- the tables are a slice again
+  pub later-slice : isSlice (later .tables) ≡ true
 
 abbrev pub Returns : Type 0
-Returns = (call : Call) → isValid call ≡ true → (c : Connection) → Next call c
+Returns = (call : Call) → isValid call ≡ true → (w : Whole) → Slices w → Next call w

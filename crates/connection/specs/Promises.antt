@@ -1,83 +1,110 @@
 -- What the calls of a connection promise.
 -- Assumes nothing: these are definitions.
 use mathlib.Core.Path.{_≡_}
-use mathlib.Core.Bool.{true, false, cond}
+use mathlib.Core.Bool.{Bool, true, false, cond, _&&_}
 use mathlib.Core.List.{List, [], _∷_}
-use Prim.Native.Nat.{ℕ}
+use mathlib.Core.Option.{Option}
+use Prim.Native.Nat.{ℕ, suc}
 use lib.Dec.{eqb}
+use lib.ListN.{length}
 use Rattle.octets.specs.Verdict.{Verdict, refuse, accept, require}
-use Rattle.octets.specs.Octets.{put}
 use Rattle.octets.specs.Output.{roomFor, laid}
 use Rattle.octets.specs.declared.Written.{Written}
 use Rattle.octets.specs.declared.Written.the-variants.{Bytes, Refused}
 use Rattle.frame_decoder.specs.Frame.{Frame}
 use Rattle.frame_decoder.specs.declared.Frame as F
 use Rattle.frame_decoder.specs.declared.Frame.the-variants.{Refused as NotRead, Empty, Body}
-use Rattle.connection_state.specs.declared.ConnectionState.{ConnectionState}
 use Rattle.frame_encoder.specs.Frames.{Settings}
+use Rattle.connection_state.specs.declared.ConnectionState.{ConnectionState}
 use Rattle.connection_state.specs.States.{State, Discarding, is}
-use Rattle.channels.specs.Numbers.{takenBelow}
-use Rattle.connection_model.specs.Connection.{Role, Answer, Outcome, Call, Seen, seen, next, lent, fresh, answered, written, after, ticked, says, stay, nothingToDo, hasError, openRead, closeRead, sessionRead}
+use Rattle.connection_model.specs.Connection.{Role, Answer, Outcome, Call, seen, next, lent, fresh, answered, written, after, ticked, says, stay, nothingToDo, hasError, openRead, closeRead, sessionRead}
 use Rattle.connection_model.specs.Connection as M
-use Rattle.local_open.specs.declared.Checked.{Checked}
-use Rattle.local_open.specs.Settings.{checkSays, checked, orSmallest, smallest}
-use Rattle.endpoint.specs.Bytes.{Storable}
+use Rattle.channels.specs.Numbers.{takenBelow}
+use Rattle.channels.specs.Places.{covers, past}
+use Rattle.local_open.specs.Settings.{allowed}
+use Rattle.endpoint.specs.declared.ResumedEndpoint.{ResumedEndpoint}
+use Rattle.endpoint.specs.declared.ResumedEndpoint.the-variants.{Is, Broken}
+use Rattle.endpoint.specs.Answers.{placesOf}
+use Rattle.endpoint.specs.Promises as E
 use Rattle.connection.specs.declared.Connection.{Connection}
-use Rattle.connection.specs.declared.ConnectionRead.{ConnectionRead}
-use Rattle.connection.specs.Bytes.{connectionBytes}
-use Rattle.connection.specs.View.{roleOf, settingsOf, viewOf, Sound}
+use Rattle.connection.specs.declared.NewConnection.{NewConnection}
+use Rattle.connection.specs.declared.NewConnection.the-variants.{Made, Refused as NotMade}
+use Rattle.connection.specs.declared.ResumedConnection.{ResumedConnection}
+use Rattle.connection.specs.declared.ResumedConnection.the-variants.{Is as Resumed, Broken as NotResumed}
+use Rattle.connection.specs.View.{Whole, whole, endpointIn, roleOf, settingsOf, viewOf, Sound}
 
 -- ---- calls
 
 -- the call draws this answer, leaves this output, and leads to this connection, as the definition has it
-pub record Meets (call : Call) (before : Connection) (a : Verdict Answer) (out : List ℕ) (later : Connection) : Type 0 where
+pub record Meets (call : Call) (before : Whole) (a : Verdict Answer) (out : List ℕ) (later : Whole) : Type 0 where
   pub draws : record { answer = a; output = out } ≡ seen (roleOf before) (settingsOf before) (viewOf before) call
   pub leaves : viewOf later ≡ next (roleOf before) (settingsOf before) (viewOf before) call
   pub sound : Sound later
 
--- of a sound connection, it meets the definition; of any connection, role and settings stay, and a refusal changes neither the connection nor a byte of the output
-pub record Does (call : Call) (before : Connection) (a : Verdict Answer) (out : List ℕ) (later : Connection) : Type 0 where
+-- of a sound connection, it meets the definition; of any connection and tables, role, settings and the tables' length stay, and a refusal changes neither the connection nor a byte of tables and output
+pub record Does (call : Call) (before : Whole) (a : Verdict Answer) (out : List ℕ) (later : Whole) : Type 0 where
   pub meets : Sound before → Meets call before a out later
-  pub same-role : roleOf later ≡ roleOf before
-  pub same-settings : settingsOf later ≡ settingsOf before
+  pub same : E.Same (endpointIn before) (endpointIn later)
   pub refused : (k : ℕ) → a ≡ refuse k → (later ≡ before) × (out ≡ lent call)
 
--- a new connection: sound, and fresh with its settings, or the smallest where these are refused
-pub record Makes (role : Role) (S : Settings) (a : Checked) (c : Connection) : Type 0 where
-  pub checks : checkSays a ≡ checked S
-  pub made-role : roleOf c ≡ role
-  pub made-settings : settingsOf c ≡ orSmallest S
-  pub made-fresh : viewOf c ≡ fresh
-  pub made-sound : Sound c
+-- whether tables have a place for each channel that the peer may use
+abbrev pub isCovered : Whole → Bool
+isCovered w = covers (placesOf (w .connection .endpoint)) (w .tables)
 
-pub record Counts (c : Connection) (r : ℕ) : Type 0 where
-  pub counts : Sound c → r ≡ takenBelow 256 (viewOf c .taken)
+-- the output of a session's frame is judged before its tables
+abbrev pub roomOf : Call → Bool
+roomOf (M.sendHeaderTo out) = true
+roomOf (M.receiveHeaderFrom s) = true
+roomOf (M.sendOpenTo out) = true
+roomOf (M.receiveFrame s h) = true
+roomOf (M.sendCloseTo e out) = true
+roomOf (M.sendSessionFrame s out) = roomFor 0 out
+roomOf (M.allocate h) = true
+roomOf (M.deallocate ch) = true
+roomOf (M.tick out) = true
 
--- ---- bytes
+-- the same of a call that is lent the tables: where its output is too short, it is 9, and else where they are, it is 8
+pub record DoesIn (call : Call) (before : Whole) (a : Verdict Answer) (out : List ℕ) (later : Whole) : Type 0 where
+  pub does : Does call before a out later
+  pub roomless : roomOf call ≡ false → a ≡ refuse 9
+  pub uncovered : roomOf call ≡ true → isCovered before ≡ false → a ≡ refuse 8
 
--- a sound connection that has these bytes, or that there is none, and then a new dialler with the smallest settings
-pub record ReadsConnection (s : List ℕ) (r : ConnectionRead) : Type 0 where
-  pub yes : r .fine ≡ true → s ≡ connectionBytes (roleOf (r .connection)) (settingsOf (r .connection)) (viewOf (r .connection))
-  pub storable : r .fine ≡ true → Storable (settingsOf (r .connection)) (viewOf (r .connection))
-  pub read-sound : Sound (r .connection)
-  pub no : r .fine ≡ false → (role : Role) (S : Settings) (c : M.Connection) → Storable S c → s ≡ connectionBytes role S c → ⊥
-  pub new-role : r .fine ≡ false → roleOf (r .connection) ≡ M.dialler
-  pub new-settings : r .fine ≡ false → settingsOf (r .connection) ≡ smallest
-  pub new-fresh : r .fine ≡ false → viewOf (r .connection) ≡ fresh
+-- what is looked up, in tables that are long enough
+pub record Looks (w : Whole) (found : Option ℕ) (a : Verdict (Option ℕ)) : Type 0 where
+  pub looks : Sound w → a ≡ accept found
+  pub looks-not : isCovered w ≡ false → a ≡ refuse 8
 
--- the bytes of a sound connection are laid at a place
-pub record WritesConnection (self : Connection) (at : ℕ) (before after : List ℕ) : Type 0 where
-  pub lays : Sound self → after ≡ put before at (connectionBytes (roleOf self) (settingsOf self) (viewOf self))
+pub record Counts (w : Whole) (r : ℕ) : Type 0 where
+  pub counts : Sound w → r ≡ takenBelow (suc (settingsOf w .channelMax)) (viewOf w .taken)
+
+-- ---- a new connection, and one that was kept
+
+-- with these settings: fresh, and sound in its tables as they are now
+pub record Begun (role : Role) (S : Settings) (w : Whole) : Type 0 where
+  pub begun-role : roleOf w ≡ role
+  pub begun-settings : settingsOf w ≡ S
+  pub begun-fresh : viewOf w ≡ fresh
+  pub begun-sound : Sound w
+  pub begun-counted : E.Counted (w .connection .endpoint)
+
+abbrev pub madeSays : NewConnection → Verdict (Unit {0})
+madeSays (Made c) = accept tt
+madeSays (NotMade k) = refuse k
+
+-- 8 for settings beyond their limits and for tables that are too short; the tables are as they were then
+pub record Makes (role : Role) (S : Settings) (t : List ℕ) (r : NewConnection) (t′ : List ℕ) : Type 0 where
+  pub checks : madeSays r ≡ require 8 (allowed S && covers (suc (S .channelMax)) t) (λ _. accept tt)
+  pub made : (c : Connection) → r ≡ Made c → Begun role S (whole c t′ (S .containerId))
+  pub refused : (k : ℕ) → r ≡ NotMade k → t′ ≡ t
+  pub made-long : length t′ ≡ length t
+  pub made-past : past (suc (S .channelMax)) t′ ≡ past (suc (S .channelMax)) t
+
+-- a connection in a state whose endpoint was kept
+abbrev pub resumedIn : ConnectionState → ResumedEndpoint → ResumedConnection
+resumedIn x (Is e) = Resumed (record { «local_state» = x; endpoint = e })
+resumedIn x Broken = NotResumed
 
 -- ---- between the private functions
-
--- what bytes give that are not those of a sound connection: a new dialler with the smallest settings
-pub record Unread (r : ConnectionRead) : Type 0 where
-  pub unread-not : r .fine ≡ false
-  pub unread-role : roleOf (r .connection) ≡ M.dialler
-  pub unread-settings : settingsOf (r .connection) ≡ smallest
-  pub unread-fresh : viewOf (r .connection) ≡ fresh
-  pub unread-sound : Sound (r .connection)
 
 -- the same connection in another state
 abbrev pub movedTo : Connection → ConnectionState → Connection
@@ -103,12 +130,19 @@ bareSays (Empty ch size from) = accept (nothingToDo size)
 bareSays (Body ch size from p end) = accept (nothingToDo size)
 
 -- an answer and a connection, as a rule has it
-pub record Reads (rule : Verdict Outcome) (before : Connection) (a : Verdict Answer) (later : Connection) : Type 0 where
-  pub reads-says : a ≡ answered rule
-  pub reads-leaves : viewOf later ≡ after (settingsOf before) rule (viewOf before)
-  pub reads-role : roleOf later ≡ roleOf before
-  pub reads-settings : settingsOf later ≡ settingsOf before
+pub record Reads (rule : Verdict Outcome) (before : Whole) (a : Verdict Answer) (later : Whole) : Type 0 where
+  pub reads-says : Sound before → a ≡ answered rule
+  pub reads-leaves : Sound before → viewOf later ≡ after (settingsOf before) rule (viewOf before)
+  pub reads-held : Sound before → E.Sound (endpointIn later)
+  pub reads-same : E.Same (endpointIn before) (endpointIn later)
   pub reads-refused : (k : ℕ) → a ≡ refuse k → later ≡ before
+
+-- the same with whatever container-id; and where no tables are lent, in whatever tables
+abbrev pub ReadsIn : (Whole → Verdict Outcome) → Connection → List ℕ → Verdict Answer → Connection → List ℕ → Type 0
+ReadsIn rule c t a c′ t′ = (id : List ℕ) → Reads (rule (whole c t id)) (whole c t id) a (whole c′ t′ id)
+
+abbrev pub ReadsBy : (Whole → Verdict Outcome) → Connection → Verdict Answer → Connection → Type 0
+ReadsBy rule c a c′ = (t : List ℕ) → ReadsIn rule c t a c′ t
 
 -- what an Open says
 abbrev pub openSaid : Settings → M.Connection → Frame → List ℕ → Verdict Outcome

@@ -2,18 +2,17 @@
 -- calls, a limit by a frame of its length, the taken channels by deallocating, the hand-out list by allocating, and the ties by a Detach on each channel.
 -- Assumes nothing.
 use mathlib.Core.Path.{_≡_, refl, sym, _∙_, ap, ap₂, subst, fun-ext}
-use mathlib.Core.Bool.{Bool, true, false, cond, not, _&&_}
+use mathlib.Core.Bool.{Bool, true, false, cond, not}
 use mathlib.Core.List.{List, [], _∷_}
 use mathlib.Core.Option.{Option, none, some}
 use Prim.Native.Nat.{ℕ, _+_, _*_, _≤_, _<_}
 use native.Mathlib.Omega.{arith}
 use lib.Dec.{leb, eqb}
-use lib.ListN.{length}
 use borrow.Author.Tests.{le-leb, leb-true, leb-false, lt-ltb, not-false}
 use Rattle.octets.specs.Verdict.{Verdict, refuse, require, accepts}
 use Rattle.octets.specs.Octets.{bytesOf}
-use Rattle.text.specs.Utf8.{utf8}
 use Rattle.frame_encoder.specs.Frames.{Settings, frameBytes, settingsOk}
+use Rattle.frame_encoder.proofs.Laws.{settings-within}
 use Rattle.connection_state.specs.States.{State, Start, HeaderReceived, HeaderSent, HeaderExchange, OpenPipe, OpenClosePipe, OpenReceived, OpenSent, ClosePipe, Opened, CloseReceived, CloseSent, Discarding, End, states, is, isOneOf, sendHeader, receiveHeader, sendOpen, readOpen, sendClose, readClose, reading, sending, stopped}
 use Rattle.connection_state.proofs.States.{is-state, everywhere}
 use Rattle.channels.specs.Numbers.{Map, with}
@@ -32,7 +31,7 @@ pub record InReach (highest readingLimit writingLimit : ℕ) (taken ties : Map) 
   pub reading-high : readingLimit ≤ 16384
   pub writing-low : 512 ≤ writingLimit
   pub writing-high : writingLimit ≤ 16384
-  pub taken-in : (n h : ℕ) → taken n ≡ some h → n ≤ 255
+  pub taken-in : (n h : ℕ) → taken n ≡ some h → n ≤ highest
   pub ties-in : (n h : ℕ) → ties n ≡ some h → n ≤ highest
 
 abbrev pub Reachable : Settings → Connection → Type 0
@@ -105,11 +104,18 @@ limits a b la ha lb hb told =
     let q : b ≤ a = limit-le b a (sym (told b lb hb)) in
     omega arith
 
--- ---- a map that ends at m has nothing above it
+-- ---- maps that end at m: they have nothing above it, and are equal if they are so up to it
 
-ends-at : (m n : ℕ) (o : Option ℕ) → m < n → ((h : ℕ) → o ≡ some h → n ≤ m) → o ≡ none
+ends-at : {A : Type 0} (m n : ℕ) (o : Option A) → m < n → ((a : A) → o ≡ some a → n ≤ m) → o ≡ none
 ends-at m n none lt ends = refl
-ends-at m n (some h) lt ends = let le : n ≤ m = ends h refl in absurd (omega arith)
+ends-at m n (some a) lt ends = let le : n ≤ m = ends a refl in absurd (omega arith)
+
+same-maps : {A : Type 0} (m : ℕ) (f g : ℕ → Option A) → ((n : ℕ) (a : A) → f n ≡ some a → n ≤ m) → ((n : ℕ) (a : A) → g n ≡ some a → n ≤ m) → ((n : ℕ) → n ≤ m → f n ≡ g n) → f ≡ g
+same-maps m f g ends-f ends-g same = fun-ext (λ n. at n (leb n m) refl)
+  where
+    at : (n : ℕ) (t : Bool) → leb n m ≡ t → f n ≡ g n
+    at n true e = same n (leb-true n m e)
+    at n false e = let lt : m < n = leb-false n m e in ends-at m n (f n) lt (ends-f n) ∙ sym (ends-at m n (g n) lt (ends-g n))
 
 -- ---- what shows in every state
 
@@ -139,16 +145,10 @@ module _ (role : Role) (S : Settings) (c d : Connection) (i : Reachable S c) (j 
       (λ n low high. sym (length-told role S c n (omega arith) (omega arith))
       ∙ refuse-both role S c d same (receiveFrame (bytesOf 4 n) 0) (number-valid n) 4 ∙ length-told role S d n (omega arith) (omega arith))
 
-  taken-by : (n : ℕ) (t : Bool) → leb n 255 ≡ t → c .taken n ≡ d .taken n
-  taken-by n true e =
-      let le : n ≤ 255 = leb-true n 255 e in
-      released-told n (c .taken n) (d .taken n) (one role S c d same (deallocate n) (lt-ltb n 65536 (omega arith)))
-  taken-by n false e =
-      let lt : 255 < n = leb-false n 255 e in
-      ends-at 255 n (c .taken n) lt (i .taken-in n) ∙ sym (ends-at 255 n (d .taken n) lt (j .taken-in n))
-
-  taken-both : c .taken ≡ d .taken
-  taken-both = fun-ext (λ n. taken-by n (leb n 255) refl)
+  taken-both : S .channelMax < 65536 → c .taken ≡ d .taken
+  taken-both few =
+      same-maps (S .channelMax) (c .taken) (d .taken) (i .taken-in) (j .taken-in)
+      (λ n le. released-told n (c .taken n) (d .taken n) (one role S c d same (deallocate n) (lt-ltb n 65536 (omega arith))))
 
 -- ---- where the limits show
 
@@ -179,19 +179,13 @@ module _ (role : Role) (S : Settings) (c d : Connection) (i : Reachable S c) (j 
   writing-both x in-opened same = transfer-both Opened refl same
   writing-both x in-closing same = transfer-both CloseReceived refl same
 
-  ties-by : S .channelMax ≤ 255 → SameAt Opened → (n : ℕ) (t : Bool) → leb n (S .channelMax) ≡ t → c .ties n ≡ d .ties n
-  ties-by few same n true e =
-      let le : n ≤ S .channelMax = leb-true n (S .channelMax) e in
-      passed-told (framed 15 n) 22 (c .ties n) (d .ties n)
+  ties-both : S .channelMax < 65536 → SameAt Opened → c .ties ≡ d .ties
+  ties-both few same =
+      same-maps (S .channelMax) (c .ties) (d .ties) (i .ties-in) (j .ties-in)
+      (λ n le. passed-told (framed 15 n) 22 (c .ties n) (d .ties n)
       (ap answered (sym (detach-read role S l c n (i .reading-low) le (omega arith)))
       ∙ one role S (at Opened l c) (at Opened m d) same (receiveFrame (frameBytes n aDetach) 0) (frame-valid n aDetach refl (omega arith))
-      ∙ ap answered (detach-read role S m d n (j .reading-low) le (omega arith)))
-  ties-by few same n false e =
-      let lt : S .channelMax < n = leb-false n (S .channelMax) e in
-      ends-at (S .channelMax) n (c .ties n) lt (i .ties-in n) ∙ sym (ends-at (S .channelMax) n (d .ties n) lt (j .ties-in n))
-
-  ties-both : S .channelMax ≤ 255 → SameAt Opened → c .ties ≡ d .ties
-  ties-both few same = fun-ext (λ n. ties-by few same n (leb n (S .channelMax)) refl)
+      ∙ ap answered (detach-read role S m d n (j .reading-low) le (omega arith))))
 
 -- ---- the hand-out list
 
@@ -261,29 +255,20 @@ shown-ties CloseSent l m c d p = refl
 shown-ties Discarding l m c d p = refl
 shown-ties End l m c d p = refl
 
-and-both : (a b : Bool) → a && b ≡ true → (a ≡ true) × (b ≡ true)
-and-both true b p = (refl, p)
-and-both false b p = let z : _≡_ {A = ℕ} 0 1 = cc in absurd (omega arith)
-
--- settings in range
-pub settings-within : (id : List ℕ) (size highest : ℕ) → settingsOk id size highest ≡ true → (512 ≤ size) × (size ≤ 16384) × (highest ≤ 255)
-unfolding settingsOk
-settings-within id size highest ok =
-    let low = and-both (leb 512 size) _ (and-both (utf8 id) _ (and-both (leb (length id) 255) _ ok .1) .1) in
-    let high = and-both (leb size 16384) (leb highest 255) (low .1) in
-    (leb-true 512 size (low .0), leb-true size 16384 (high .0), leb-true highest 255 (high .1))
-
 module _ (role : Role) (S : Settings) (ok : settingsOk (S .containerId) (S .maxFrameSize) (S .channelMax) ≡ true) (c d : Connection) (i : Reachable S c) (j : Reachable S d) where
+  few : S .channelMax < 65536
+  few = omega (arith, settings-within (S .containerId) (S .maxFrameSize) (S .channelMax) ok .channel-high)
+
   apart-at : (x : State) → Same role S (at x (c .handOut) c) (at x (d .handOut) d) → account (at x (c .handOut) c) ≡ account (at x (d .handOut) d)
   apart-at x same = λ z. record {
     state = x;
     readingLimit = reading-both role S (at x (c .handOut) c) (at x (d .handOut) d) i j same z;
-    taken = taken-both role S (at x (c .handOut) c) (at x (d .handOut) d) i j same z;
+    taken = taken-both role S (at x (c .handOut) c) (at x (d .handOut) d) i j same few z;
     writingLimit = shown x (c .writingLimit) (d .writingLimit) (λ g. writing-both role S c d i j (c .handOut) (d .handOut) x g same) z;
     handOut = shown x (c .handOut) (d .handOut) (λ g. handOut-both role S x g (c .handOut) (d .handOut) c d same) z;
     ties =
         shown-ties x (c .handOut) (d .handOut) c d
-        (λ e. ties-both role S c d i j (c .handOut) (d .handOut) (settings-within (S .containerId) (S .maxFrameSize) (S .channelMax) ok .2)
+        (λ e. ties-both role S c d i j (c .handOut) (d .handOut) few
         (subst (λ y. Same role S (at y (c .handOut) c) (at y (d .handOut) d)) e same)) z;
   }
 

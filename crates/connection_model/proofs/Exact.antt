@@ -20,6 +20,7 @@ use Rattle.performatives.specs.Fields.{fieldsIn, fieldsOf}
 use Rattle.performatives.specs.Performative.{numberOf, sized, descriptor, listAt, described, split, hasType, fits, fit, fieldsBy, Performative, rowsFor, performativeBy, performative, numberOr, maxFrameSize, channelMax, remoteChannel}
 use Rattle.frame_decoder.specs.Frame.{content}
 use Rattle.frame_encoder.specs.Frames.{Settings, settingsOk, frameBytes}
+use Rattle.frame_encoder.proofs.Laws.{settings-within}
 use Rattle.connection_state.specs.States.{State, Start, HeaderReceived, HeaderSent, HeaderExchange, OpenPipe, OpenClosePipe, OpenReceived, OpenSent, ClosePipe, Opened, CloseReceived, CloseSent, Discarding, End, is, isOneOf, stopped, beforeOpen}
 use Rattle.channels.specs.Numbers.{Map, nowhere, with, upFrom, one, isTaken, count, EachOnce, Shared}
 use Rattle.channels.proofs.Numbers.{one-small}
@@ -27,8 +28,7 @@ use Rattle.connection_model.specs.Connection.{Role, Connection, connecti
 use Rattle.connection_model.specs.Sound.{TiedWithin, Reached}
 use Rattle.connection_model.proofs.Invariant.{either-way, reached}
 use Rattle.connection_model.proofs.ProbeFrames.{framed, read, read-whole}
-use Rattle.connection_model.proofs.Apart.{settings-within}
-use Rattle.connection_model.proofs.Led.{Led, id-short, here, on, by, at, send-open, send-plain, send-error, read-close, to-exchange, to-unopened}
+use Rattle.connection_model.proofs.Led.{Led, here, on, by, at, send-open, send-plain, send-error, read-close, to-exchange, to-unopened}
 
 -- ---- the peer's Open
 
@@ -234,7 +234,7 @@ module _ (role : Role) (S : Settings) where
       ∙ ap (λ o. after S (tieTo (framed (8 + length beginFor) n) o) c) e)
 
   -- the ties of the channels below k, one after the other: each by a channel that is taken for it and freed again
-  tying-all : (w m : ℕ) (ti : Map) → 512 ≤ S .maxFrameSize → S .channelMax ≤ 255 → (k : ℕ) → k ≤ suc (S .channelMax)
+  tying-all : (w m : ℕ) (ti : Map) → 512 ≤ S .maxFrameSize → S .channelMax < 65536 → (k : ℕ) → k ≤ suc (S .channelMax)
       → Led role S (holding Opened w m (upFrom 0 (suc m)) nowhere nowhere) (holding Opened w m (upFrom 0 (suc m)) nowhere (cut ti k))
   tying-all w m ti size few zero le =
       subst (λ t. Led role S (holding Opened w m (upFrom 0 (suc m)) nowhere nowhere) (holding Opened w m (upFrom 0 (suc m)) nowhere t)) (cut-none ti) (here role S _)
@@ -251,7 +251,7 @@ module _ (role : Role) (S : Settings) where
           (subst (λ t. Led role S (holding Opened w m (upFrom 1 m) (with nowhere 0 (some h)) (cut ti (suc k))) (holding Opened w m (upFrom 0 (suc m)) t (cut ti (suc k)))) (with-back h)
           (freeing Opened w m (cut ti (suc k)) 0 (upFrom 1 m) (with nowhere 0 (some h)) h refl))))
 
-  module _ (short : length (S .containerId) ≤ 255) (size : 512 ≤ S .maxFrameSize) (few : S .channelMax ≤ 255) (w m : ℕ) (low : 512 ≤ w) (high : w ≤ 16384) (most : m ≤ S .channelMax) where
+  module _ (short : length (S .containerId) ≤ 255) (size : 512 ≤ S .maxFrameSize) (few : S .channelMax < 65536) (w m : ℕ) (low : 512 ≤ w) (high : w ≤ 16384) (most : m ≤ S .channelMax) where
     to-received : Led role S fresh (holding OpenReceived w m (upFrom 0 (suc m)) nowhere nowhere)
     unfolding andThen openedWith
     to-received =
@@ -305,13 +305,14 @@ module _ (role : Role) (S : Settings) (ok : settingsOk (S .containerId) (S .maxF
   pub every-reached : (c : Connection) → Reached S c → Led role S fresh c
   every-reached c r =
       let w = settings-within (S .containerId) (S .maxFrameSize) (S .channelMax) ok in
-      let short = id-short S ok in
+      let short = w .id-short in
+      let few : S .channelMax < 65536 = omega (arith, w .channel-high) in
       either-way r
       (λ u. subst (Led role S fresh) (sym (u .at-first)) (to-unopened role S short (c .state) (u .stands)))
       (λ m q a.
       let l = listed m (c .handOut) (c .taken) (a .shared) in
       subst (Led role S fresh) (λ i. connection (c .state) (sym (a .reading-own) i) (c .writingLimit) (sym q i) (sym (l .1) i) (c .taken) (c .ties))
-      (to-agreed role S short (w .0) (w .2) (c .writingLimit) m (a .writing-low) (a .writing-high) (a .most) (c .state) (a .stands) (l .0) (c .taken) (c .ties) (l .2) (a .tied) (a .untied)))
+      (to-agreed role S short (w .size-low) few (c .writingLimit) m (a .writing-low) (a .writing-high) (a .most) (c .state) (a .stands) (l .0) (c .taken) (c .ties) (l .2) (a .tied) (a .untied)))
 
   -- it holds of a connection exactly if some list of calls leads to it
   pub exact : (c : Connection) → Reached S c ↔ Led role S fresh c

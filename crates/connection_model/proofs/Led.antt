@@ -1,12 +1,12 @@
 -- Calls that lead from one connection to another: lists of them, and the moves from state to state. So every state is reached in which a connection can be without the peer's Open.
 -- Assumes nothing.
-use mathlib.Core.Path.{_≡_, refl, sym, _∙_, ap, subst}
+use mathlib.Core.Path.{_≡_, refl, _∙_, ap, subst}
 use mathlib.Core.Bool.{Bool, true, false, cond}
 use mathlib.Core.List.{List, [], _∷_, _++_}
 use mathlib.Core.Option.{Option, none, some}
 use Prim.Native.Nat.{ℕ, _+_, _≤_}
 use native.Mathlib.Omega.{arith}
-use lib.Dec.{T, leb, eqb, leb→le}
+use lib.Dec.{T, leb, eqb}
 use lib.ListN.{length, length-append}
 use borrow.Author.Tests.{le-leb}
 use Rattle.octets.specs.Verdict.{accept, require, andThen}
@@ -18,12 +18,11 @@ use Rattle.protocol_header.specs.Header.{amqp100, other, isProtocolId, protocol
 use Rattle.values.specs.Null.{null}
 use Rattle.serializer.specs.Written.{uint, ushort, textHeader, text, listHeader, joined, trimmed, compositeHeader, composite}
 use Rattle.serializer.proofs.Laws.{text-len-short, header-few}
-use Rattle.frame_encoder.specs.Frames.{Settings, ErrorText, settingsOk, frameHeader, frameBytes, limited, idleField, openFields, openBody, errorOk, closeOk, descriptionField, errorFields, errorField, closeBody}
+use Rattle.frame_encoder.specs.Frames.{Settings, ErrorText, frameHeader, frameBytes, limited, idleField, openFields, openBody, errorOk, closeOk, descriptionField, errorFields, errorField, closeBody}
 use Rattle.frame_encoder.proofs.Laws.{length-frame}
 use Rattle.session_frame.proofs.Trim.{trimmed-short}
 use Rattle.connection_state.specs.States.{State, Start, HeaderReceived, HeaderSent, HeaderExchange, OpenPipe, OpenClosePipe, OpenReceived, OpenSent, ClosePipe, Opened, CloseReceived, CloseSent, Discarding, End, is, isOneOf, along, sendHeader, receiveHeader, receiveOtherHeader, sendOpen, sendClose, sendCloseWithError, readClose, afterOpen}
 use Rattle.connection_model.specs.Connection.{Role, Connection, connection, fresh, Call, sendHeaderTo, receiveHeaderFrom, sendOpenTo, receiveFrame, sendCloseTo, go, apply, frameRead, closes, after, next, run}
-use Rattle.connection_model.proofs.Rules.{and-left}
 use Rattle.connection_model.proofs.Valid.{both}
 use Rattle.connection_model.proofs.ProbeFrames.{aClose, close-content, read-whole}
 use Rattle.connection_model.proofs.Probes.{space, space-room, amqp, amqp-received}
@@ -76,10 +75,6 @@ open-short S short =
       uint-short (S .maxFrameSize),
       idle-short (S .idleTimeOut),
     )
-
-pub id-short : (S : Settings) → settingsOk (S .containerId) (S .maxFrameSize) (S .channelMax) ≡ true → length (S .containerId) ≤ 255
-unfolding settingsOk
-id-short S ok = leb→le (length (S .containerId)) 255 (and-left (leb (length (S .containerId)) 255) _ (subst T (sym ok) tt))
 
 limited-yes : (limit : ℕ) (bs : List ℕ) → length bs ≤ limit → length bs ≤ 16384 → limited limit bs ≡ accept bs
 unfolding limited

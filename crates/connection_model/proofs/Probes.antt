@@ -209,7 +209,7 @@ close-next role S l c low =
 
 -- ---- a tie, by a Detach on its channel
 
-pub detach-read : (role : Role) (S : Settings) (l : Option (List ℕ)) (c : Connection) (n : ℕ) → 512 ≤ c .readingLimit → n ≤ S .channelMax → n ≤ 255
+pub detach-read : (role : Role) (S : Settings) (l : Option (List ℕ)) (c : Connection) (n : ℕ) → 512 ≤ c .readingLimit → n ≤ S .channelMax → n < 65536
     → decide role S (at Opened l c) (receiveFrame (frameBytes n aDetach) 0) ≡ passOn (framed 15 n) 22 (c .ties n)
 unfolding require
 detach-read role S l c n low held few =

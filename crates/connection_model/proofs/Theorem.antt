@@ -14,24 +14,25 @@ use mathlib.Core.List.{List}
 use Prim.Native.Nat.{ℕ, _≤_}
 use native.Mathlib.Omega.{arith}
 use Rattle.frame_encoder.specs.Frames.{Settings, settingsOk}
+use Rattle.frame_encoder.proofs.Laws.{settings-within}
 use Rattle.connection_model.specs.Connection.{Role, Connection, fresh, Call, run, seenIn}
 use Rattle.connection_model.specs.Account.{account}
 use Rattle.connection_model.specs.Callers.{Valid}
 use Rattle.connection_model.specs.Sound.{Reached}
 use Rattle.connection_model.proofs.Invariant.{reached, reading-within, writing-within, tied-within, taken-within}
 use Rattle.connection_model.proofs.Forward.{forward-run}
-use Rattle.connection_model.proofs.Apart.{Reachable, settings-within, apart}
+use Rattle.connection_model.proofs.Apart.{Reachable, apart}
 
 reachable : (S : Settings) → settingsOk (S .containerId) (S .maxFrameSize) (S .channelMax) ≡ true → (c : Connection) → Reached S c → Reachable S c
 reachable S ok c r =
     let w = settings-within (S .containerId) (S .maxFrameSize) (S .channelMax) ok in
-    let l = reading-within r (w .0) (w .1) in
+    let l = reading-within r (w .size-low) (w .size-high) in
     record {
       reading-low = l .0;
       reading-high = l .1;
       writing-low = writing-within r .0;
       writing-high = writing-within r .1;
-      taken-in = λ n h e. let t = taken-within r n h e in omega (arith, t .2, t .3, w .2);
+      taken-in = λ n h e. let t = taken-within r n h e in omega (arith, t .2, t .3);
       ties-in = tied-within r;
     }
 

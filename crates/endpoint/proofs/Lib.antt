@@ -1,8 +1,6 @@
 -- What the proofs of several functions, and of the crates above, use.
+pub mod Basics
+pub mod Opening
 pub mod Receiving
-pub mod Outgoing
-pub mod Octets
-pub mod Bytes
-pub mod Reached
-pub mod Reading
-pub mod Writing
+pub mod Limits
+pub mod Sending

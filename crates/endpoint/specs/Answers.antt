@@ -1,9 +1,8 @@
 -- What the values of an endpoint stand for in the definition of a connection.
 -- Assumes nothing: these are definitions.
 use mathlib.Core.List.{List}
-use mathlib.Core.Option.{Option, none, some}
-use Prim.Native.Nat.{ℕ}
-use Rattle.channels.specs.Numbers.{Map}
+use mathlib.Core.Option.{Option, some}
+use Prim.Native.Nat.{ℕ, suc}
 use Rattle.octets.specs.Verdict.{Verdict, refuse, accept}
 use Rattle.octets.specs.declared.Written.{Written}
 use Rattle.octets.specs.declared.Written.the-variants.{Bytes, Refused as NotWritten}
@@ -14,11 +13,13 @@ use Rattle.frame_encoder.specs.Frames.{Settings}
 use Rattle.connection_state.specs.States.{State}
 use Rattle.connection_model.specs.Connection as M
 use Rattle.connection_model.specs.Connection.{Answer, connection, wrote, nothingToDo, opened, closed, forward, began, channel, freed}
+use Rattle.channels.specs.Numbers.{Map}
 use Rattle.channels.specs.declared.Held.{Held}
 use Rattle.channels.specs.declared.Held.the-variants.{Handle, Nothing}
 use Rattle.channels.specs.declared.Allocated.{Allocated}
 use Rattle.channels.specs.declared.Allocated.the-variants.{Channel, NotOpened, Full}
-use Rattle.channels.specs.Channels.{handlesSay, agreedSays, handOutSays, takenSays}
+use Rattle.channels.specs.Channels.{agreedSays, handOutSays, takenSays}
+use Rattle.channels.specs.Ties.{tiesSays}
 use Rattle.local_open.specs.Settings.{openSays}
 use Rattle.endpoint.specs.declared.Role.{Role}
 use Rattle.endpoint.specs.declared.Role.the-variants.{Dialler, Listener}
@@ -29,33 +30,42 @@ use Rattle.endpoint.specs.declared.FrameAnswer.the-variants.{NothingToDo
 use Rattle.endpoint.specs.declared.OutgoingTie.{OutgoingTie}
 use Rattle.endpoint.specs.declared.OutgoingTie.the-variants.{Stay, To, NotFound}
 
--- ---- an endpoint
+-- ---- an endpoint, with what it is lent: its tables, and the container-id of its settings
+
+pub record Whole : Type 0 where
+  pub endpoint : Endpoint
+  pub tables : List ℕ
+  pub id : List ℕ
+
+abbrev pub whole : Endpoint → List ℕ → List ℕ → Whole
+whole e t id = record { endpoint = e; tables = t; id = id }
 
 abbrev pub roleSays : Role → M.Role
 roleSays Dialler = M.dialler
 roleSays Listener = M.listener
 
-abbrev pub roleOf : Endpoint → M.Role
-roleOf e = roleSays (e .role)
+abbrev pub roleOf : Whole → M.Role
+roleOf w = roleSays (w .endpoint .role)
 
-abbrev pub settingsOf : Endpoint → Settings
-settingsOf e = openSays (e .«local_open»)
+abbrev pub settingsOf : Whole → Settings
+settingsOf w = openSays (w .id) (w .endpoint .«local_open»)
 
-abbrev pub agreedOf : Endpoint → Option ℕ
-agreedOf e = agreedSays (e .outgoing)
+-- how many places its tables must have: one for each channel that its peer may use
+abbrev pub placesOf : Endpoint → ℕ
+placesOf e = suc (e .«local_open» .«channel_max»)
 
-abbrev pub handOutOf : Endpoint → Option (List ℕ)
-handOutOf e = handOutSays (e .outgoing)
+abbrev pub handOutOf : Whole → Option (List ℕ)
+handOutOf w = handOutSays (w .endpoint .outgoing) (w .tables)
 
-abbrev pub takenOf : Endpoint → Map
-takenOf e = takenSays (e .outgoing)
+abbrev pub takenOf : Whole → Map
+takenOf w = takenSays (w .endpoint .outgoing) (w .tables)
 
-abbrev pub tiesOf : Endpoint → Map
-tiesOf e = handlesSay (e .incoming)
+abbrev pub tiesOf : Whole → Map
+tiesOf w = tiesSays (placesOf (w .endpoint)) (w .tables)
 
 -- the connection in a state
-abbrev pub viewAs : State → Endpoint → M.Connection
-viewAs x e = connection x (e .«reading_limit») (e .«writing_limit») (agreedOf e) (handOutOf e) (takenOf e) (tiesOf e)
+abbrev pub viewAs : State → Whole → M.Connection
+viewAs x w = connection x (w .endpoint .«reading_limit») (w .endpoint .«writing_limit») (agreedSays (w .endpoint .outgoing)) (handOutOf w) (takenOf w) (tiesOf w)
 
 abbrev pub frameOf : Incoming → Frame
 frameOf i = record { size = i .size; channel = i .channel; from = i .from }

@@ -1,5 +1,3 @@
 pub mod Answers
-pub mod Bytes
 pub mod Promises
 pub mod Outgoing
-pub mod Parts

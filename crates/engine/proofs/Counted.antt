@@ -1,17 +1,16 @@
 -- What a call of the connection answers tells how many bytes it wrote.
 -- Assumes nothing.
-use mathlib.Core.Path.{_≡_, refl, sym, _∙_, ap, subst}
-use mathlib.Core.Bool.{Bool, true, false}
+use mathlib.Core.Path.{_≡_, refl}
 use mathlib.Core.List.{List, [], _∷_}
 use mathlib.Core.Option.{Option, none, some}
 use Prim.Native.Nat.{ℕ}
 use lib.Dec.{eqb}
 use lib.ListN.{length}
-use Rattle.octets.specs.Verdict.{Verdict, refuse, accept, andThen}
+use Rattle.octets.specs.Verdict.{Verdict, accept}
 use Rattle.protocol_header.specs.Header.{Protocol, amqp100, other, received}
 use Rattle.performatives.specs.Performative.{Performative, remoteChannel}
 use Rattle.frame_decoder.specs.Frame.{Frame, readFrame, sessionFrame}
-use Rattle.frame_encoder.specs.Frames.{Settings, ErrorText}
+use Rattle.frame_encoder.specs.Frames.{Settings}
 use Rattle.connection_state.specs.States.{Discarding, End, is, isOneOf, silent}
 use Rattle.connection_model.specs.Connection.{Role, dialler, listener, Connection, Call, sendHeaderTo, receiveHeaderFrom, sendOpenTo, receiveFrame, sendCloseTo, sendSessionFrame, allocate, deallocate, tick, Answer, wrote, stop, header, otherProtocol, nothingToDo, opened, closed, forward, began, channel, freed, Outcome, headed, tieTo, untie, passOn, newSession, begun, sessionRead, performativeRead, frameRead, closes, given, released, decide}
 use Rattle.connection_model.proofs.Rules.{Holds, refused, holds, on-require, on-cond, on-any, accepted}

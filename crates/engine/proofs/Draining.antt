@@ -35,11 +35,12 @@ use Rattle.connection.specs.View as View
 use Rattle.connection.specs.Promises as C
 use Rattle.connection.specs.declared.Connection.{Connection}
 use Rattle.engine_model.specs.Engine as M
+use Rattle.engine.specs.declared.Trailed.{Trailed}
 use Rattle.engine.specs.Promises.{Keeps}
-use Rattle.engine.specs.Sending.{sendsOf, waitingTrail, Drained, Drains}
+use Rattle.engine.specs.Sending.{sendsOf, waitingTrail, TrailedIn, trailedIn, Drained, Drains}
 use Rattle.engine.proofs.Output.{laid-is, rest-is, laid-behind, fits}
 use Rattle.engine.proofs.Does.{ruleOf, inner-refused, inner-accepted}
-use Rattle.engine.proofs.Failing.{keeps-of}
+use Rattle.engine.proofs.Failing.{keeps-self, keeps-on, keeps-of}
 
 -- ---- the first of several frames
 
@@ -75,7 +76,7 @@ first highest s n e = go (sessionFrame highest s) refl
 -- ---- what sending it comes to
 
 module _ (role : Role) (S : Settings) (c : K.Connection) (s : List ℕ) where
-  pub session-same : (out out′ : List ℕ) → roomFor 0 out ≡ true → roomFor 0 out′ ≡ true → decide role S c (sendSessionFrame s out) ≡ decide role S c (sendSessionFrame s out′)
+  session-same : (out out′ : List ℕ) → roomFor 0 out ≡ true → roomFor 0 out′ ≡ true → decide role S c (sendSessionFrame s out) ≡ decide role S c (sendSessionFrame s out′)
   session-same out out′ r r′ = require-on 9 _ _ r ∙ sym (require-on 9 _ _ r′)
 
   limited-is : (limit : ℕ) (bytes : List ℕ) → Holds (λ b. b ≡ bytes) (limited limit bytes)
@@ -114,11 +115,11 @@ trail-stops role S a c call calls k e = ap (M.further S c (λ a c′. M.trail ro
 
 -- ---- the loop
 
-abbrev limitOf : Connection → ℕ
+abbrev limitOf : View.Whole → ℕ
 limitOf c = View.settingsOf c .channelMax
 
 -- c is the connection at first, and d the one that frames before `at` led to; what is left to send is the rest of the trail
-pub record OnWay (c : Connection) (n : ℕ) (w lent out : List ℕ) (d : Connection) (at left written last : ℕ) : Type 0 where
+pub record OnWay (c : View.Whole) (n : ℕ) (w lent out : List ℕ) (d : View.Whole) (at left written last : ℕ) : Type 0 where
   pub bytes : List ℕ
   pub way-count : written ≡ length bytes
   pub way-output : out ≡ laid (accept bytes) lent
@@ -128,30 +129,25 @@ pub record OnWay (c : Connection) (n : ℕ) (w lent out : List ℕ) (d : Connect
       waitingTrail c n w lent
       ≡ M.wroteBefore bytes (M.trail (View.roleOf c) (View.settingsOf c) (wrote last) (View.viewOf d) (sendsOf (M.framesIn left (drop at w)) lent))
 
-pub record Going (c : Connection) (n : ℕ) (w lent out : List ℕ) (d : Connection) (at left written last : ℕ) : Type 0 where
-  pub going-keeps : Keeps c d
+-- the connection and the tables at first, and by now
+pub record Going (c : Connection) (t : List ℕ) (n : ℕ) (w lent out : List ℕ) (d : Connection) (u : List ℕ) (at left written last : ℕ) : Type 0 where
+  pub going-tables : length u ≡ length t
   pub going-length : length out ≡ length lent
   pub going-at : at ≤ length w
   pub going-written : written ≤ length out
-  pub going : View.Sound c → sessionFrames (View.settingsOf c .channelMax) w ≡ accept n → roomFor (length w) lent ≡ true → OnWay c n w lent out d at left written last
+  pub going-keeps : (id : List ℕ) → Keeps (View.whole c t id) (View.whole d u id)
+  pub going :
+      (id : List ℕ) → View.Sound (View.whole c t id) → sessionFrames (View.settingsOf (View.whole c t id) .channelMax) w ≡ accept n → roomFor (length w) lent ≡ true
+      → OnWay (View.whole c t id) n w lent out (View.whole d u id) at left written last
 
-pub keeps-self : (c : Connection) → Keeps c c
-keeps-self c = record { keeps-role = refl; keeps-settings = refl; keeps-sound = λ z. z }
-
-pub keeps-on : (c d e : Connection) → Keeps c d → Keeps d e → Keeps c e
-keeps-on c d e p q = record {
-  keeps-role = q .keeps-role ∙ p .keeps-role;
-  keeps-settings = q .keeps-settings ∙ p .keeps-settings;
-  keeps-sound = λ z. q .keeps-sound (p .keeps-sound z);
-}
-
-pub going-start : (c : Connection) (n : ℕ) (w lent : List ℕ) → Going c n w lent lent c 0 n 0 0
-going-start c n w lent = record {
-  going-keeps = keeps-self c;
+pub going-start : (c : Connection) (t : List ℕ) (n : ℕ) (w lent : List ℕ) → Going c t n w lent lent c t 0 n 0 0
+going-start c t n w lent = record {
+  going-tables = refl;
   going-length = refl;
   going-at = omega arith;
   going-written = omega arith;
-  going = λ z f r. record {
+  going-keeps = λ id. keeps-self (View.whole c t id);
+  going = λ id z f r. record {
     bytes = [];
     way-count = refl;
     way-output = sym (laid-is [] lent);
@@ -165,27 +161,42 @@ room-was : (n : ℕ) (out : List ℕ) → roomFor n out ≡ true → 16384 + 2 *
 unfolding roomFor
 room-was n out e = leb-true _ _ e
 
-pub drained-all : (c : Connection) (n : ℕ) (w lent out : List ℕ) (d : Connection) (at left written last : ℕ) → Going c n w lent out d at left written last → left ≤ 0 → Drains c n w lent out (record { answer = Bytes last; written = written; connection = d })
-drained-all c n w lent out d at left written last g h = record {
-  drains-keeps = g .going-keeps;
-  drains-inside = g .going-written;
-  drains = λ z f r.
-      let o = g .going z f r in
-      let zero-left : left ≡ 0 = omega arith in
-      let t : waitingTrail c n w lent ≡ record { last = accept (wrote last); connection = View.viewOf d; bytes = o .bytes ++ [] } =
-      o .way-trail ∙ ap (λ (k : ℕ). M.wroteBefore (o .bytes) (M.trail (View.roleOf c) (View.settingsOf c) (wrote last) (View.viewOf d) (sendsOf (M.framesIn k (drop at w)) lent))) zero-left in
-      let b : o .bytes ++ [] ≡ o .bytes = append-nil (o .bytes) in
-      let m = room-was (length w) lent r in
-      subst (λ T. Drained T lent out (record { answer = Bytes last; written = written; connection = d })) (sym t) (record {
-        drained-last = refl;
-        drained-connection = refl;
-        drained-count = o .way-count ∙ ap length (sym b);
-        drained-output = o .way-output ∙ ap (λ x. laid (accept x) lent) (sym b);
-        drained-room = omega (arith, o .way-short, g .going-at);
-      });
-}
+-- where the sending stops
+abbrev stopsAt : Written → ℕ → View.Whole → TrailedIn
+stopsAt a written d = record { answer = a; written = written; connection = d }
 
-module _ (c : Connection) (n : ℕ) (w lent out : List ℕ) (d : Connection) (at left written last : ℕ) (g : Going c n w lent out d at left written last) (more : 0 < left) (s : List ℕ) (d′ : Connection) where
+pub drained-all :
+    (c : Connection) (t : List ℕ) (n : ℕ) (w lent out : List ℕ) (d : Connection) (u : List ℕ) (at left written last : ℕ) → Going c t n w lent out d u at left written last → left ≤ 0
+    → (id : List ℕ) → Drains (View.whole c t id) n w lent out (stopsAt (Bytes last) written (View.whole d u id))
+drained-all c t n w lent out d u at left written last g h id =
+    let was = View.whole c t id in
+    let is = View.whole d u id in
+    record {
+      drains-keeps = g .going-keeps id;
+      drains-inside = g .going-written;
+      drains = λ z f r.
+          let o = g .going id z f r in
+          let zero-left : left ≡ 0 = omega arith in
+          let q : waitingTrail was n w lent ≡ record { last = accept (wrote last); connection = View.viewOf is; bytes = o .bytes ++ [] } =
+          o .way-trail ∙ ap (λ (k : ℕ). M.wroteBefore (o .bytes) (M.trail (View.roleOf was) (View.settingsOf was) (wrote last) (View.viewOf is) (sendsOf (M.framesIn k (drop at w)) lent))) zero-left in
+          let b : o .bytes ++ [] ≡ o .bytes = append-nil (o .bytes) in
+          let m = room-was (length w) lent r in
+          subst (λ T. Drained T lent out (stopsAt (Bytes last) written is)) (sym q) (record {
+            drained-last = refl;
+            drained-connection = refl;
+            drained-count = o .way-count ∙ ap length (sym b);
+            drained-output = o .way-output ∙ ap (λ x. laid (accept x) lent) (sym b);
+            drained-room = omega (arith, o .way-short, g .going-at);
+          });
+    }
+
+-- no more is written than there is
+pub inside-drained :
+    (c : Connection) (t : List ℕ) (n : ℕ) (w lent out : List ℕ) (r : Trailed) (u : List ℕ) → ((id : List ℕ) → Drains (View.whole c t id) n w lent out (trailedIn r u id)) → r .written ≤ length out
+inside-drained c t n w lent out r u p = p [] .drains-inside
+
+module _ (c : Connection) (t : List ℕ) (n : ℕ) (w lent out : List ℕ) (d : Connection) (u : List ℕ) (at left written last : ℕ) (g : Going c t n w lent out d u at left written last) (more : 0 < left) (s : List ℕ)
+    (d′ : Connection) (u′ : List ℕ) where
   abbrev rest-out : List ℕ
   rest-out = midOf written (length out - written) out
 
@@ -195,100 +206,131 @@ module _ (c : Connection) (n : ℕ) (w lent out : List ℕ) (d : Connection) (at
   abbrev the-call : Call
   the-call = sendSessionFrame part rest-out
 
-  -- what the call comes to, it comes to where it is lent the whole output
-  as-lent : View.Sound c → sessionFrames (limitOf c) w ≡ accept n → roomFor (length w) lent ≡ true → (v : Verdict K.Outcome) → ruleOf d the-call ≡ v → decide (View.roleOf c) (View.settingsOf c) (View.viewOf d) (sendSessionFrame (drop at w) lent) ≡ v
-  as-lent z f r v e =
-      let o = g .going z f r in
-      let m = room-was (length w) lent r in
-      let rl : length rest-out ≡ length out - written = ap length (rest-is out written) ∙ length-drop written out in
-      let here : roomFor 0 lent ≡ true = room-yes 0 lent (omega arith) in
-      let there : roomFor 0 rest-out ≡ true = room-yes 0 rest-out (omega (arith, o .way-short, g .going-at, g .going-length)) in
-      session-same (View.roleOf c) (View.settingsOf c) (View.viewOf d) (drop at w) lent rest-out here there
-      ∙ (λ i. decide (sym (g .going-keeps .keeps-role) i) (sym (g .going-keeps .keeps-settings) i) (View.viewOf d) (sendSessionFrame (sym (rest-is w at) i) rest-out))
-      ∙ e
+  abbrev later-out : List ℕ
+  later-out = putMid written (length out - written) out s
 
-  abbrev later : List Call
-  later = sendsOf (M.framesIn (left - 1) (drop (sizeOf (drop at w)) (drop at w))) lent
+  abbrev Answers : Written → Type 0
+  Answers a = (id : List ℕ) → C.DoesIn the-call (View.whole d u id) (sentSays a) s (View.whole d′ u′ id)
 
   is-suc : left ≡ suc (left - 1)
   is-suc = omega arith
 
-  -- what is left, with its first call
-  trail-first : (T : M.Trail) (b : List ℕ) → T ≡ M.wroteBefore b (M.trail (View.roleOf c) (View.settingsOf c) (wrote last) (View.viewOf d) (sendsOf (M.framesIn left (drop at w)) lent))
-      → T ≡ M.wroteBefore b (M.trail (View.roleOf c) (View.settingsOf c) (wrote last) (View.viewOf d) (sendSessionFrame (drop at w) lent ∷ later))
-  trail-first T b e = e ∙ ap (λ (k : ℕ). M.wroteBefore b (M.trail (View.roleOf c) (View.settingsOf c) (wrote last) (View.viewOf d) (sendsOf (M.framesIn k (drop at w)) lent))) is-suc
+  module _ (id : List ℕ) where
+    abbrev first-whole : View.Whole
+    first-whole = View.whole c t id
 
-  module _ (same : length s ≡ length (midOf written (length out - written) out)) where
-    drained-stopped : (k : ℕ) → C.Does the-call d (refuse k) s d′ → Drains c n w lent (putMid written (length out - written) out s) (record { answer = Refused k; written = written; connection = d′ })
-    drained-stopped k p =
-        let e : (d′ ≡ d) × (s ≡ rest-out) = p .refused k refl in
-        let back : putMid written (length out - written) out s ≡ out = ap (putMid written (length out - written) out) (e .1) ∙ put-same written (length out - written) out in
+    abbrev this-whole : View.Whole
+    this-whole = View.whole d u id
+
+    abbrev next-whole : View.Whole
+    next-whole = View.whole d′ u′ id
+
+    abbrev role : Role
+    role = View.roleOf first-whole
+
+    abbrev settings : Settings
+    settings = View.settingsOf first-whole
+
+    kept : Keeps first-whole this-whole
+    kept = g .going-keeps id
+
+    -- what the call comes to, it comes to where it is lent the whole output
+    as-lent :
+        View.Sound first-whole → sessionFrames (limitOf first-whole) w ≡ accept n → roomFor (length w) lent ≡ true → (v : Verdict K.Outcome) → ruleOf this-whole the-call ≡ v
+        → decide role settings (View.viewOf this-whole) (sendSessionFrame (drop at w) lent) ≡ v
+    as-lent z f r v e =
+        let o = g .going id z f r in
+        let m = room-was (length w) lent r in
+        let rl : length rest-out ≡ length out - written = ap length (rest-is out written) ∙ length-drop written out in
+        let here : roomFor 0 lent ≡ true = room-yes 0 lent (omega arith) in
+        let there : roomFor 0 rest-out ≡ true = room-yes 0 rest-out (omega (arith, o .way-short, g .going-at, g .going-length)) in
+        session-same role settings (View.viewOf this-whole) (drop at w) lent rest-out here there
+        ∙ (λ i. decide (sym (kept .keeps-same .same-role) i) (sym (kept .keeps-same .same-settings) i) (View.viewOf this-whole) (sendSessionFrame (sym (rest-is w at) i) rest-out))
+        ∙ e
+
+    abbrev later : List Call
+    later = sendsOf (M.framesIn (left - 1) (drop (sizeOf (drop at w)) (drop at w))) lent
+
+    -- what is left, with its first call
+    trail-first :
+        (T : M.Trail) (b : List ℕ) → T ≡ M.wroteBefore b (M.trail role settings (wrote last) (View.viewOf this-whole) (sendsOf (M.framesIn left (drop at w)) lent))
+        → T ≡ M.wroteBefore b (M.trail role settings (wrote last) (View.viewOf this-whole) (sendSessionFrame (drop at w) lent ∷ later))
+    trail-first T b e = e ∙ ap (λ (k : ℕ). M.wroteBefore b (M.trail role settings (wrote last) (View.viewOf this-whole) (sendsOf (M.framesIn k (drop at w)) lent))) is-suc
+
+  module _ (same : length s ≡ length rest-out) where
+    drained-stopped : (k : ℕ) (id : List ℕ) → C.Does the-call (this-whole id) (refuse k) s (next-whole id) → Drains (first-whole id) n w lent later-out (stopsAt (Refused k) written (next-whole id))
+    drained-stopped k id p =
+        let e = p .refused k refl in
+        let back : later-out ≡ out = ap (putMid written (length out - written) out) (e .1) ∙ put-same written (length out - written) out in
         record {
-          drains-keeps = keeps-on c d d′ (g .going-keeps) (keeps-of the-call d d′ (refuse k) s p);
+          drains-keeps = keeps-on (first-whole id) (this-whole id) (next-whole id) (kept id) (keeps-of the-call (this-whole id) (next-whole id) (refuse k) s p);
           drains-inside = subst (λ x. written ≤ length x) (sym back) (g .going-written);
           drains = λ z f r.
-              let o = g .going z f r in
+              let o = g .going id z f r in
               let m = room-was (length w) lent r in
-              let q = as-lent z f r (refuse k) (inner-refused the-call d d′ k (refuse k) s p refl (g .going-keeps .keeps-sound z)) in
-              let t : waitingTrail c n w lent ≡ record { last = refuse k; connection = View.viewOf d; bytes = o .bytes ++ [] } =
-              trail-first _ (o .bytes) (o .way-trail)
-              ∙ ap (M.wroteBefore (o .bytes)) (trail-stops (View.roleOf c) (View.settingsOf c) (wrote last) (View.viewOf d) (sendSessionFrame (drop at w) lent) later k q) in
+              let q = as-lent id z f r (refuse k) (inner-refused the-call (this-whole id) (next-whole id) k (refuse k) s p refl (kept id .keeps-sound z)) in
+              let x : waitingTrail (first-whole id) n w lent ≡ record { last = refuse k; connection = View.viewOf (this-whole id); bytes = o .bytes ++ [] } =
+              trail-first id _ (o .bytes) (o .way-trail)
+              ∙ ap (M.wroteBefore (o .bytes)) (trail-stops (role id) (settings id) (wrote last) (View.viewOf (this-whole id)) (sendSessionFrame (drop at w) lent) (later id) k q) in
               let b : o .bytes ++ [] ≡ o .bytes = append-nil (o .bytes) in
-              subst (λ T. Drained T lent (putMid written (length out - written) out s) (record { answer = Refused k; written = written; connection = d′ })) (sym t) (record {
+              subst (λ T. Drained T lent later-out (stopsAt (Refused k) written (next-whole id))) (sym x) (record {
                 drained-last = refl;
                 drained-connection = ap View.viewOf (e .0);
                 drained-count = o .way-count ∙ ap length (sym b);
-                drained-output = back ∙ o .way-output ∙ ap (λ x. laid (accept x) lent) (sym b);
+                drained-output = back ∙ o .way-output ∙ ap (λ y. laid (accept y) lent) (sym b);
                 drained-room = omega (arith, o .way-short, g .going-at);
               });
         }
 
-    pub drained-stop : (a : Written) (k : ℕ) → C.Does the-call d (sentSays a) s d′ → a ≡ Refused k → Drains c n w lent (putMid written (length out - written) out s) (record { answer = a; written = written; connection = d′ })
-    drained-stop a k p e =
-        subst (λ (v : Written). Drains c n w lent (putMid written (length out - written) out s) (record { answer = v; written = written; connection = d′ })) (sym e)
-        (drained-stopped k (subst (λ (v : Written). C.Does the-call d (sentSays v) s d′) e p))
+    pub drained-stop : (a : Written) (k : ℕ) → Answers a → a ≡ Refused k → (id : List ℕ) → Drains (first-whole id) n w lent later-out (stopsAt a written (next-whole id))
+    drained-stop a k p e id =
+        subst (λ (v : Written). Drains (first-whole id) n w lent later-out (stopsAt v written (next-whole id))) (sym e)
+        (drained-stopped k id (subst (λ (v : Written). C.Does the-call (this-whole id) (sentSays v) s (next-whole id)) e (p id .does)))
 
     module _ (m size at′ written′ : ℕ) (oct : (i : ℕ) → Fits w8 (getD w i 0)) (sz : size ≡ sizeOf part) (moved : (at′ ≤ length w) × (at + size ≤ length w → at′ ≡ at + size))
-        (grown : (written′ ≤ length (putMid written (length out - written) out s)) × (written + m ≤ length (putMid written (length out - written) out s) → written′ ≡ written + m)) where
-      way-on : C.Does the-call d (accept (wrote m)) s d′ → View.Sound c → sessionFrames (limitOf c) w ≡ accept n → roomFor (length w) lent ≡ true → OnWay c n w lent (putMid written (length out - written) out s) d′ at′ (left - 1) written′ m
-      way-on p z f r =
-          let o = g .going z f r in
-          let a = inner-accepted the-call d d′ (wrote m) (accept (wrote m)) s p refl (g .going-keeps .keeps-sound z) in
-          let q = as-lent z f r (accept (a .outcome)) (a .accepts) in
-          let F = first (limitOf c) (drop at w) (left - 1) (o .way-left ∙ ap accept is-suc) in
-          let short = frame-short (View.roleOf c) (View.settingsOf c) (View.viewOf d) (drop at w) lent (a .outcome) (left - 1) (octets-drop at w (octets-are w (λ i. omega (arith, oct i)))) F q in
+        (grown : (written′ ≤ length later-out) × (written + m ≤ length later-out → written′ ≡ written + m)) where
+      way-on :
+          (id : List ℕ) → C.Does the-call (this-whole id) (accept (wrote m)) s (next-whole id) → View.Sound (first-whole id) → sessionFrames (limitOf (first-whole id)) w ≡ accept n
+          → roomFor (length w) lent ≡ true → OnWay (first-whole id) n w lent later-out (next-whole id) at′ (left - 1) written′ m
+      way-on id p z f r =
+          let o = g .going id z f r in
+          let a = inner-accepted the-call (this-whole id) (next-whole id) (wrote m) (accept (wrote m)) s p refl (kept id .keeps-sound z) in
+          let q = as-lent id z f r (accept (a .outcome)) (a .accepts) in
+          let F = first (limitOf (first-whole id)) (drop at w) (left - 1) (o .way-left ∙ ap accept is-suc) in
+          let short = frame-short (role id) (settings id) (View.viewOf (this-whole id)) (drop at w) lent (a .outcome) (left - 1) (octets-drop at w (octets-are w (λ i. omega (arith, oct i)))) F q in
           let cnt : length (a .outcome .bytes) ≡ m = a .counts in
           let fit : length (a .outcome .bytes) ≤ length rest-out = fits (a .outcome .bytes) rest-out s (a .puts) same in
           let rl : length rest-out ≡ length out - written = ap length (rest-is out written) ∙ length-drop written out in
           let dl : length (drop at w) ≡ length w - at = length-drop at w in
-          let len : length (putMid written (length out - written) out s) ≡ length out = same-len-mid written (length out - written) out s same in
+          let len : length later-out ≡ length out = same-len-mid written (length out - written) out s same in
           let size-is : size ≡ sizeOf (drop at w) = sz ∙ ap sizeOf (rest-is w at) in
           let there : at′ ≡ at + size = moved .1 (omega (arith, F .here, g .going-at)) in
           let sum : written′ ≡ written + m = grown .1 (omega (arith, g .going-written)) in
           let tot : length (o .bytes ++ a .outcome .bytes) ≡ length (o .bytes) + length (a .outcome .bytes) = length-append (o .bytes) (a .outcome .bytes) in
           let dd : drop (sizeOf (drop at w)) (drop at w) ≡ drop at′ w = drop-drop (sizeOf (drop at w)) at w ∙ ap (λ k. drop k w) (ap (λ k. at + k) (sym size-is) ∙ sym there) in
-          let led : apply (View.settingsOf c) (a .outcome .effect) (View.viewOf d) ≡ View.viewOf d′ = ap (λ S. apply S (a .outcome .effect) (View.viewOf d)) (sym (g .going-keeps .keeps-settings)) ∙ sym (a .leads) in
+          let led : apply (settings id) (a .outcome .effect) (View.viewOf (this-whole id)) ≡ View.viewOf (next-whole id) = ap (λ S. apply S (a .outcome .effect) (View.viewOf (this-whole id))) (sym (kept id .keeps-same .same-settings)) ∙ sym (a .leads) in
           record {
             bytes = o .bytes ++ a .outcome .bytes;
             way-count = omega (arith, o .way-count);
             way-output = laid-behind (o .bytes) (a .outcome .bytes) lent out s written (o .way-count) (o .way-output) (a .puts);
             way-short = omega (arith, o .way-short);
-            way-left = ap (sessionFrames (limitOf c)) (sym dd) ∙ F .rest;
+            way-left = ap (sessionFrames (limitOf (first-whole id))) (sym dd) ∙ F .rest;
             way-trail =
-                trail-first _ (o .bytes) (o .way-trail)
-                ∙ ap (M.wroteBefore (o .bytes)) (trail-on (View.roleOf c) (View.settingsOf c) (wrote last) (wrote m) (View.viewOf d) (sendSessionFrame (drop at w) lent) later (a .outcome) q (a .answers))
-                ∙ wrote-wrote (o .bytes) (a .outcome .bytes) (M.trail (View.roleOf c) (View.settingsOf c) (wrote m) (apply (View.settingsOf c) (a .outcome .effect) (View.viewOf d)) later)
-                ∙ (λ i. M.wroteBefore (o .bytes ++ a .outcome .bytes) (M.trail (View.roleOf c) (View.settingsOf c) (wrote m) (led i) (sendsOf (M.framesIn (left - 1) (dd i)) lent)));
+                trail-first id _ (o .bytes) (o .way-trail)
+                ∙ ap (M.wroteBefore (o .bytes)) (trail-on (role id) (settings id) (wrote last) (wrote m) (View.viewOf (this-whole id)) (sendSessionFrame (drop at w) lent) (later id) (a .outcome) q (a .answers))
+                ∙ wrote-wrote (o .bytes) (a .outcome .bytes) (M.trail (role id) (settings id) (wrote m) (apply (settings id) (a .outcome .effect) (View.viewOf (this-whole id))) (later id))
+                ∙ (λ i. M.wroteBefore (o .bytes ++ a .outcome .bytes) (M.trail (role id) (settings id) (wrote m) (led i) (sendsOf (M.framesIn (left - 1) (dd i)) lent)));
           }
 
-      pub going-on : (a : Written) → C.Does the-call d (sentSays a) s d′ → a ≡ Bytes m → Going c n w lent (putMid written (length out - written) out s) d′ at′ (left - 1) written′ m
+      pub going-on : (a : Written) → Answers a → a ≡ Bytes m → Going c t n w lent later-out d′ u′ at′ (left - 1) written′ m
       going-on a p e =
-          let p′ : C.Does the-call d (accept (wrote m)) s d′ = subst (λ v. C.Does the-call d (sentSays v) s d′) e p in
-          let len : length (putMid written (length out - written) out s) ≡ length out = same-len-mid written (length out - written) out s same in
+          let p′ : (id : List ℕ) → C.Does the-call (this-whole id) (accept (wrote m)) s (next-whole id) = λ id. subst (λ v. C.Does the-call (this-whole id) (sentSays v) s (next-whole id)) e (p id .does) in
+          let len : length later-out ≡ length out = same-len-mid written (length out - written) out s same in
           record {
-            going-keeps = keeps-on c d d′ (g .going-keeps) (keeps-of the-call d d′ (accept (wrote m)) s p′);
+            going-tables = p [] .does .same .same-long ∙ g .going-tables;
             going-length = len ∙ g .going-length;
             going-at = moved .0;
             going-written = grown .0;
-            going = way-on p′;
+            going-keeps = λ id. keeps-on (first-whole id) (this-whole id) (next-whole id) (kept id) (keeps-of the-call (this-whole id) (next-whole id) (accept (wrote m)) s (p′ id));
+            going = λ id. way-on id (p′ id);
           }

@@ -1,6 +1,7 @@
 -- What the events promise, from the rules of the definition.
 pub mod Counted
 pub mod Does
+pub mod Making
 pub mod Bare
 pub mod Well
 pub mod Phases
@@ -10,6 +11,8 @@ pub mod Failing
 pub mod Openings
 pub mod Landing
 pub mod Refusals
+pub mod Refusing
+pub mod Missing
 pub mod Outgoing
 pub mod Reading
 pub mod Draining

@@ -1,81 +1,55 @@
 -- A session's frame goes out: refused because of the input, refused because of the state, or written.
 -- Assumes nothing.
 use mathlib.Core.Path.{_≡_, refl, sym, _∙_, ap, subst}
-use mathlib.Core.Bool.{Bool, true, false, cond, not, _&&_, _||_}
-use mathlib.Core.List.{List, [], _∷_, _++_, append-nil}
+use mathlib.Core.Bool.{Bool, true, false, not}
+use mathlib.Core.List.{List, [], _∷_, append-nil}
 use mathlib.Core.Option.{Option, none, some}
 use Prim.Native.Nat.{ℕ, _+_, _*_, _≤_, _<_}
 use native.Mathlib.Omega.{arith}
 use lib.ListN.{length}
 use lib.Dec.{leb, eqb}
 use borrow.Author.Tests.{leb-true, le-leb}
-use Rattle.octets.specs.Verdict.{Verdict, refuse, accept, require, andThen}
+use Rattle.octets.specs.Verdict.{Verdict, refuse, accept, andThen}
 use Rattle.octets.specs.Output.{roomFor, laid}
-use Rattle.octets.proofs.Laws.{require-on, require-off, then-accept, then-refuse, room-yes, room-no}
+use Rattle.octets.proofs.Laws.{require-on, require-off, room-yes, room-no}
 use Rattle.octets.specs.declared.Written.{Written}
 use Rattle.octets.specs.declared.Written.the-variants.{Bytes, Refused as NotWritten}
 use Rattle.performatives.specs.Performative.{Performative, performative}
 use Rattle.performatives.proofs.Laws.{performative-six}
 use Rattle.frame_decoder.specs.Frame.{Frame, frame, bodyIn, anySize, anyChannel, sessionPerformative, sessionFrame, beginsFor}
-use Rattle.frame_encoder.specs.Frames.{Settings, limited}
+use Rattle.frame_encoder.specs.Frames.{limited}
 use Rattle.session_frame.specs.Session.{sessionBytes}
-use Rattle.connection_state.specs.States.{isOneOf, sending}
 use Rattle.connection_model.specs.Connection as K
-use Rattle.connection_model.specs.Connection.{Role, dialler, listener, Answer, wrote, Effect, sendSessionFrame, tiedBy, sessionSent, decide, apply}
+use Rattle.connection_model.specs.Connection.{Role, dialler, listener, wrote, sendSessionFrame, tiedBy, sessionSent}
 use Rattle.endpoint.specs.Answers.{sentSays}
 use Rattle.connection.specs.View as View
 use Rattle.connection.specs.Promises as C
 use Rattle.connection.specs.declared.Connection.{Connection}
 use Rattle.engine_model.specs.Engine as M
-use Rattle.engine_model.specs.Engine.{Event, Result, Trail, trail, goes, landing, results, settled, fail, sendFault, outgoing, isRunning, lent, wroteBefore}
+use Rattle.engine_model.specs.Engine.{Event, Result, Trail, trail, goes, landing, settled, fail, sendFault, outgoing, isRunning, lent}
 use Rattle.engine.specs.declared.ConnectionEngine.{ConnectionEngine}
 use Rattle.engine.specs.declared.error.InnerError.{InnerError}
 use Rattle.engine.specs.declared.Landed.{Landed}
 use Rattle.engine.specs.declared.OnOutgoing.{OnOutgoing}
 use Rattle.engine.specs.declared.Running as R
 use Rattle.engine.specs.declared.Running.the-variants.{Refused as NotRun}
-use Rattle.engine.specs.Answers.{roleOf, settingsOf, viewOf, Sound, phaseSays, errorSays, goesOn, replySays}
-use Rattle.engine.specs.Promises.{Does, Lands, Keeps, Fails, Settles}
+use Rattle.engine.specs.Answers.{Whole, whole, connectionIn, roleOf, settingsOf, viewOf, Sound, phaseSays, errorSays, goesOn, replySays}
+use Rattle.engine.specs.Promises.{Does, DoesIn, LandedIn, landedIn, Lands, Fails, Settles}
 use Rattle.engine.specs.Sending.{outgoingFrom}
-use Rattle.engine.proofs.Does.{comesTo, refuses, ruleOf, inner-refused, inner-accepted, Accepted}
+use Rattle.engine.proofs.Does.{comesTo, refuses, covered-by, uncovered-by, covered-does, roomless-does, uncovered-refuses, ruleOf, inner-refused, inner-accepted, Accepted}
 use Rattle.engine.proofs.Output.{laid-is}
+use Rattle.engine.proofs.Refusing.{Refuses, takes, turns, on-require, on-then, turned, refused-with, by-number}
 use Rattle.engine.proofs.Well.{ending, running-yet}
-use Rattle.engine.proofs.Failing.{keeps-of}
-use Rattle.engine.proofs.Landing.{lands-does}
+use Rattle.engine.proofs.Failing.{keeps-of, keeps-as, keeps-on}
+use Rattle.engine.proofs.Landing.{engineAt, lands-does}
 
--- ---- which numbers a rule refuses with
-
--- a verdict accepts, or refuses with a number that passes
-pub data Refuses (P : ℕ → Type 0) {A : Type 0} : Verdict A → Type 0 where
-  takes : {a : A} → Refuses P (accept a)
-  turns : {k : ℕ} → P k → Refuses P (refuse k)
-
-module _ (P : ℕ → Type 0) {A : Type 0} where
-  on-require : (k : ℕ) (b : Bool) (rest : Unit {0} → Verdict A) → P k → Refuses P (rest tt) → Refuses P (require k b rest)
-  unfolding require
-  on-require k true rest p h = h
-  on-require k false rest p h = turns p
-
-  on-then : {B : Type 0} {v : Verdict B} (f : B → Verdict A) → Refuses P v → ((b : B) → Refuses P (f b)) → Refuses P (andThen v f)
-  unfolding andThen
-  on-then f takes g = g _
-  on-then f (turns p) g = turns p
-
-  turned : {k : ℕ} → Refuses P {A = A} (refuse k) → P k
-  turned (turns p) = p
-
-pub refused-with : {P : ℕ → Type 0} {A : Type 0} {v : Verdict A} {k : ℕ} → Refuses P v → v ≡ refuse k → P k
-refused-with {P} {A} {v} {k} h e = turned P (subst (Refuses P) e h)
+-- ---- which numbers the rule refuses with
 
 abbrev Low : ℕ → Type 0
 Low k = k < 20
 
 abbrev High : ℕ → Type 0
 High k = 20 ≤ k
-
-by-number : {A : Type 0} {P : ℕ → Type 0} (v : Verdict A) → ((k : ℕ) → v ≡ refuse k → P k) → Refuses P v
-by-number (refuse k) f = turns (f k refl)
-by-number (accept a) f = takes
 
 performative-low : (s : List ℕ) → Refuses Low (performative s)
 performative-low s = by-number (performative s) (λ k e. let x : k ≡ 6 = performative-six s k e in omega arith)
@@ -87,7 +61,7 @@ frame-low limit highest s =
     (on-require _ _ _ _ (omega arith) takes)))))
 
 -- the input's refusals are below 20
-pub session-low : (highest : ℕ) (s : List ℕ) → Refuses Low (sessionFrame highest s)
+session-low : (highest : ℕ) (s : List ℕ) → Refuses Low (sessionFrame highest s)
 unfolding sessionFrame sessionPerformative
 session-low highest s =
     on-then _ _ (frame-low anySize anyChannel s) (λ f.
@@ -106,7 +80,7 @@ unfolding limited
 limited-high limit bytes = on-require _ _ _ _ (omega arith) takes
 
 -- and the state's are not
-pub sent-high : (role : Role) (c : K.Connection) (s : List ℕ) (r : Frame × Performative) → Refuses High (sessionSent role c s r)
+sent-high : (role : Role) (c : K.Connection) (s : List ℕ) (r : Frame × Performative) → Refuses High (sessionSent role c s r)
 sent-high role c s r =
     on-require _ _ _ _ (omega arith)
     (on-then _ _ (tied-high role (beginsFor (eqb (r .1 .code) 17) (r .1)) (c .taken (r .0 .channel))) (λ e. on-then _ _ (limited-high (c .writingLimit) (sessionBytes s r)) (λ bytes. takes)))
@@ -134,114 +108,152 @@ unfolding roomFor
 room-fewer lent out e = let l : 16384 + 2 * lent ≤ length out = leb-true (16384 + 2 * lent) (length out) e in le-leb (16384 + 2 * 0) (length out) (omega arith)
 
 -- as it is answered
-pub gone-does :
-    (event : Event) (e : ConnectionEngine) (out : List ℕ) (l : Landed) (k : ℕ) (r : OnOutgoing) → r ≡ outgoingFrom l k
-    → Does event e (replySays (goesOn (l .phase)) 0 (l .written) (some (refuse k))) out (record { phase = l .phase; connection = l .connection })
-    → Does event e (replySays (r .running) 0 (r .written) (some (sentSays (r .answer)))) out (r .engine)
-gone-does event e out l k r q s = subst (λ x. Does event e (replySays (x .running) 0 (x .written) (some (sentSays (x .answer)))) out (x .engine)) (sym q) s
+gone-does :
+    (event : Event) (e : Whole) (out : List ℕ) (l : Landed) (t id : List ℕ) (k : ℕ) (r : OnOutgoing) → r ≡ outgoingFrom l k
+    → Does event e (replySays (goesOn (l .phase)) 0 (l .written) (some (refuse k))) out (engineAt (landedIn l t id))
+    → Does event e (replySays (r .running) 0 (r .written) (some (sentSays (r .answer)))) out (whole (r .engine) t id)
+gone-does event e out l t id k r q s = subst (λ x. Does event e (replySays (x .running) 0 (x .written) (some (sentSays (x .answer)))) out (whole (x .engine) t id)) (sym q) s
 
-module _ (e : ConnectionEngine) (s out : List ℕ) where
+module _ (e : ConnectionEngine) (t s out : List ℕ) where
   abbrev replies : OnOutgoing → Verdict M.Reply
   replies x = replySays (x .running) 0 (x .written) (some (sentSays (x .answer)))
 
-  refuses-so : (r : OnOutgoing) (k : ℕ) (out′ : List ℕ) → (Sound e → comesTo e (outgoing s out) ≡ refuse k) → out′ ≡ out → (r .running ≡ NotRun k) × (r .engine ≡ e) → Does (outgoing s out) e (replies r) out′ (r .engine)
-  refuses-so r k out′ j o w = refuses (outgoing s out) e (r .engine) k _ out′ j (ap (λ u. replySays u 0 (r .written) (some (sentSays (r .answer)))) (w .0)) (w .1) o
+  -- what the event is answered and leaves
+  abbrev Sends : OnOutgoing → List ℕ → List ℕ → Type 0
+  Sends r out′ t′ = (id : List ℕ) → DoesIn (outgoing s out) (whole e t id) (replies r) out′ (whole (r .engine) t′ id)
 
-  pub outgoing-9 : (r : OnOutgoing) → length out < 16384 → (r .running ≡ NotRun 9) × (r .engine ≡ e) → Does (outgoing s out) e (replies r) out (r .engine)
-  outgoing-9 r t w = refuses-so r 9 out (λ z. require-off 9 _ _ (room-no 0 out (omega arith))) refl w
+  abbrev NotSent : ℕ → OnOutgoing → Type 0
+  NotSent k r = (r .running ≡ NotRun k) × (r .engine ≡ e)
 
-  module _ (b : Bool) (ends : b ≡ not (isRunning (phaseSays (e .phase)))) (room : 16384 ≤ length out) where
+  no-reply : (r : OnOutgoing) (k : ℕ) → NotSent k r → replies r ≡ refuse k
+  no-reply r k w = ap (λ u. replySays u 0 (r .written) (some (sentSays (r .answer)))) (w .0)
+
+  same-engine : (r : OnOutgoing) (k : ℕ) (t′ id : List ℕ) → NotSent k r → t′ ≡ t → whole (r .engine) t′ id ≡ whole e t id
+  same-engine r k t′ id w q = λ i. whole (w .1 i) (q i) id
+
+  refuses-so :
+      (r : OnOutgoing) (k : ℕ) (out′ t′ id : List ℕ) → (Sound (whole e t id) → comesTo (whole e t id) (outgoing s out) ≡ refuse k) → out′ ≡ out → t′ ≡ t → NotSent k r
+      → Does (outgoing s out) (whole e t id) (replies r) out′ (whole (r .engine) t′ id)
+  refuses-so r k out′ t′ id j o q w = refuses (outgoing s out) (whole e t id) (whole (r .engine) t′ id) k _ out′ j (no-reply r k w) (same-engine r k t′ id w q) o
+
+  pub outgoing-9 : (r : OnOutgoing) → length out < 16384 → NotSent 9 r → Sends r out t
+  outgoing-9 r l w id =
+      let none-left : roomFor 0 out ≡ false = room-no 0 out (omega arith) in
+      roomless-does (outgoing s out) (whole e t id) (whole (r .engine) t id) _ out none-left (no-reply r 9 w) (refuses-so r 9 out t id (λ z. require-off 9 _ _ none-left) refl refl w)
+
+  module _ (room : 16384 ≤ length out) (v : Bool) (cover : (id : List ℕ) → v ≡ C.isCovered (View.whole (e .connection) t id)) where
     has : roomFor 0 out ≡ true
     has = room-yes 0 out (omega arith)
 
-    pub outgoing-20 : (r : OnOutgoing) → b ≡ true → (r .running ≡ NotRun 20) × (r .engine ≡ e) → Does (outgoing s out) e (replies r) out (r .engine)
-    outgoing-20 r t w = refuses-so r 20 out (λ z. require-on 9 _ _ has ∙ require-off 20 _ _ (ending (e .phase) b ends t)) refl w
+    pub outgoing-8 : (r : OnOutgoing) → not v ≡ true → NotSent 8 r → Sends r out t
+    outgoing-8 r n w id =
+        uncovered-refuses (outgoing s out) (whole e t id) (whole (r .engine) t id) _ out has (uncovered-by (View.whole (e .connection) t id) v (cover id) n) (no-reply r 8 w) (same-engine r 8 t id w refl) refl
 
-    module _ (run : b ≡ false) where
-      abbrev trailBy : Verdict K.Outcome → Trail
-      trailBy v = M.further (settingsOf e) (viewOf e .connection) (λ a c′. trail (roleOf e) (settingsOf e) a c′ []) v
+    module _ (long : not v ≡ false) (b : Bool) (ends : b ≡ not (isRunning (phaseSays (e .phase)))) where
+      in-them : (out′ id : List ℕ) (r : Verdict M.Reply) (d : Whole) → Does (outgoing s out) (whole e t id) r out′ d → DoesIn (outgoing s out) (whole e t id) r out′ d
+      in-them out′ id r d p = covered-does (outgoing s out) (whole e t id) d r out′ has (covered-by (View.whole (e .connection) t id) v (cover id) long) p
 
-      abbrev landsBy : Verdict K.Outcome → M.Landing
-      landsBy v = M.onward (roleOf e) (settingsOf e) out (λ c bytes. landing (settled (c .state)) c bytes) (trailBy v)
+      pub outgoing-20 : (r : OnOutgoing) → b ≡ true → NotSent 20 r → Sends r out t
+      outgoing-20 r f w id = in-them out id _ _ (refuses-so r 20 out t id (λ z. require-on 9 _ _ has ∙ require-off 20 _ _ (ending (e .phase) b ends f)) refl refl w)
 
-      abbrev goesBy : Verdict K.Outcome → Verdict Result
-      goesBy v = goes (roleOf e) (settingsOf e) out (trailBy v)
+      module _ (run : b ≡ false) where
+        abbrev the-call : K.Call
+        the-call = sendSessionFrame s out
 
-      -- what the event and the call inside it come to
-      comes : comesTo e (outgoing s out) ≡ andThen (sessionFrame (settingsOf e .channelMax) s) (λ x. goesBy (ruleOf (e .connection) (sendSessionFrame s out)))
-      comes = require-on 9 _ _ has ∙ require-on 20 _ _ (running-yet (e .phase) b ends run)
+        abbrev Answers : Written → List ℕ → Connection → List ℕ → Type 0
+        Answers a out′ d t′ = (id : List ℕ) → C.DoesIn the-call (View.whole (e .connection) t id) (sentSays a) out′ (View.whole d t′ id)
 
-      calls : ruleOf (e .connection) (sendSessionFrame s out) ≡ andThen (sessionFrame (settingsOf e .channelMax) s) (sessionSent (roleOf e) (viewOf e .connection) s)
-      calls = require-on 9 _ _ has
+        module _ (id : List ℕ) where
+          abbrev W : Whole
+          W = whole e t id
 
-      input-by :
-          (v : Verdict (Frame × Performative)) (k : ℕ) → Refuses Low v → andThen v (sessionSent (roleOf e) (viewOf e .connection) s) ≡ refuse k → k < 20
-          → andThen v (λ x. goesBy (ruleOf (e .connection) (sendSessionFrame s out))) ≡ refuse k
-      unfolding andThen
-      input-by (refuse j) k h q l = ap refuse (ap number q)
-        where
-          number : Verdict K.Outcome → ℕ
-          number (refuse i) = i
-          number (accept o) = 0
-      input-by (accept x) k h q l = let y : 20 ≤ k = refused-with (sent-high (roleOf e) (viewOf e .connection) s x) q in absurd (omega arith)
+          abbrev trailBy : Verdict K.Outcome → Trail
+          trailBy x = M.further (settingsOf W) (viewOf W .connection) (λ a c′. trail (roleOf W) (settingsOf W) a c′ []) x
 
-      -- refused because of the input
-      pub outgoing-input :
-          (r : OnOutgoing) (out′ : List ℕ) (a : Written) (d : Connection) (k : ℕ) → C.Does (sendSessionFrame s out) (e .connection) (sentSays a) out′ d → a ≡ NotWritten k → k < 20 → (r .running ≡ NotRun k) × (r .engine ≡ e)
-          → Does (outgoing s out) e (replies r) out′ (r .engine)
-      outgoing-input r out′ a d k p q l w =
-          refuses-so r k out′
-          (λ z. comes ∙ input-by (sessionFrame (settingsOf e .channelMax) s) k (session-low _ s) (sym calls ∙ inner-refused (sendSessionFrame s out) (e .connection) d k _ out′ p (ap sentSays q) z) l)
-          (p .refused k (ap sentSays q) .1) w
+          abbrev landsBy : Verdict K.Outcome → M.Landing
+          landsBy x = M.onward (roleOf W) (settingsOf W) out (λ c bytes. landing (settled (c .state)) c bytes) (trailBy x)
 
-      past-by :
-          (v : Verdict (Frame × Performative)) (u : Verdict K.Outcome) → ((k : ℕ) → u ≡ refuse k → 20 ≤ k) → Refuses Low v → andThen v (sessionSent (roleOf e) (viewOf e .connection) s) ≡ u
-          → andThen v (λ x. goesBy u) ≡ goesBy u
-      unfolding andThen
-      past-by (refuse j) u h l q = let y : 20 ≤ j = h j (sym q) in let x : j < 20 = turned Low l in absurd (omega arith)
-      past-by (accept x) u h l q = refl
+          abbrev goesBy : Verdict K.Outcome → Verdict Result
+          goesBy x = goes (roleOf W) (settingsOf W) out (trailBy x)
 
-      past : (u : Verdict K.Outcome) → ruleOf (e .connection) (sendSessionFrame s out) ≡ u → ((k : ℕ) → u ≡ refuse k → 20 ≤ k) → comesTo e (outgoing s out) ≡ goesBy u
-      past u q h =
-          comes ∙ ap (λ y. andThen (sessionFrame (settingsOf e .channelMax) s) (λ x. goesBy y)) q
-          ∙ past-by (sessionFrame (settingsOf e .channelMax) s) u h (session-low _ s) (sym calls ∙ q)
+          -- what the event and the call inside it come to
+          comes : comesTo W (outgoing s out) ≡ andThen (sessionFrame (settingsOf W .channelMax) s) (λ x. goesBy (ruleOf (connectionIn W) the-call))
+          comes = require-on 9 _ _ has ∙ require-on 20 _ _ (running-yet (e .phase) b ends run)
 
-      -- refused because of the state
-      pub outgoing-failing :
-          (r : OnOutgoing) (out′ out″ : List ℕ) (a : Written) (d : Connection) (k : ℕ) (error : InnerError) (l : Landed) → C.Does (sendSessionFrame s out) (e .connection) (sentSays a) out′ d → a ≡ NotWritten k → 20 ≤ k
-          → errorSays error ≡ sendFault k → Fails (errorSays error) d 0 out′ out″ l → r ≡ outgoingFrom l k → Does (outgoing s out) e (replies r) out″ (r .engine)
-      outgoing-failing r out′ out″ a d k error l p q h er fa g =
-          let same = p .refused k (ap sentSays q) in
-          let f′ : Fails (sendFault k) (e .connection) 0 out out″ l =
-          subst (λ x. Fails (sendFault k) (e .connection) 0 x out″ l) (same .1) (subst (λ x. Fails (sendFault k) x 0 out′ out″ l) (same .0) (subst (λ x. Fails x d 0 out′ out″ l) er fa)) in
-          gone-does (outgoing s out) e out″ l k r g
-          (lands-does (outgoing s out) e (fail (roleOf e) (settingsOf e) (sendFault k) (viewOf e .connection) [] out) 0 0 (some (refuse k)) (some (refuse k)) out″ l
-          (λ z. past (refuse k) (inner-refused (sendSessionFrame s out) (e .connection) d k _ out′ p (ap sentSays q) z) (λ j w. let x : k ≡ j = cc in omega arith))
-          (λ z. refl) (λ z. refl)
-          (λ z. f′ .fails z [] out refl (sym (laid-is [] out)) has has)
-          (f′ .fails-keeps))
+          calls : ruleOf (connectionIn W) the-call ≡ andThen (sessionFrame (settingsOf W .channelMax) s) (sessionSent (roleOf W) (viewOf W .connection) s)
+          calls = require-on 9 _ _ has
 
-      -- written
-      pub outgoing-done :
-          (out′ : List ℕ) (a : Written) (d : Connection) (n : ℕ) (e′ : ConnectionEngine) (rr : R.Running) → C.Does (sendSessionFrame s out) (e .connection) (sentSays a) out′ d → a ≡ Bytes n → Settles d e′
-          → rr ≡ goesOn (e′ .phase) → Does (outgoing s out) e (replySays rr 0 n (some (sentSays (Bytes n)))) out′ e′
-      outgoing-done out′ a d n e′ rr p q st g =
-          let R = ruleOf (e .connection) (sendSessionFrame s out) in
-          let l : Landed = record { phase = e′ .phase; written = n; connection = e′ .connection } in
-          let w : Sound e → Accepted (sendSessionFrame s out) (e .connection) d (wrote n) out′ = λ z. inner-accepted (sendSessionFrame s out) (e .connection) d (wrote n) _ out′ p (ap sentSays q) z in
-          subst (λ x. Does (outgoing s out) e (replySays x 0 n (some (accept (wrote n)))) out′ e′) (sym g)
-          (lands-does (outgoing s out) e (landsBy R) 0 0 (some (trailBy R .last)) (some (accept (wrote n))) out′ l
-          (λ z. past R refl (λ k x. let y : accept (w z .outcome) ≡ refuse k = sym (w z .accepts) ∙ x in let o : _≡_ {A = ℕ} 0 1 = cc in absurd (omega arith)))
-          (λ z. refl)
-          (λ z. ap (λ x. some (accept x)) (sym (w z .answers)) ∙ ap (λ x. some (trailBy x .last)) (sym (w z .accepts)))
-          (λ z. subst (λ x. Lands (landsBy x) out out′ l) (sym (w z .accepts)) (record {
-            lands-phase = st .settles ∙ ap (λ c. settled (c .state)) (w z .leads);
-            lands-connection = ap View.viewOf (st .settles-with) ∙ w z .leads;
-            lands-count = sym (w z .counts) ∙ ap length (sym (append-nil (w z .outcome .bytes)));
-            lands-output = w z .puts ∙ ap (λ x. laid (accept x) out) (sym (append-nil (w z .outcome .bytes)));
-          }))
-          (record {
-            keeps-role = ap View.roleOf (st .settles-with) ∙ p .same-role;
-            keeps-settings = ap View.settingsOf (st .settles-with) ∙ p .same-settings;
-            keeps-sound = λ z. subst View.Sound (sym (st .settles-with)) (p .meets z .sound);
-          }))
+          input-by :
+              (x : Verdict (Frame × Performative)) (k : ℕ) → Refuses Low x → andThen x (sessionSent (roleOf W) (viewOf W .connection) s) ≡ refuse k → k < 20
+              → andThen x (λ y. goesBy (ruleOf (connectionIn W) the-call)) ≡ refuse k
+          unfolding andThen
+          input-by (refuse j) k h q l = ap refuse (ap number q)
+            where
+              number : Verdict K.Outcome → ℕ
+              number (refuse i) = i
+              number (accept o) = 0
+          input-by (accept x) k h q l = let y : 20 ≤ k = refused-with (sent-high (roleOf W) (viewOf W .connection) s x) q in absurd (omega arith)
+
+          past-by :
+              (x : Verdict (Frame × Performative)) (u : Verdict K.Outcome) → ((k : ℕ) → u ≡ refuse k → 20 ≤ k) → Refuses Low x → andThen x (sessionSent (roleOf W) (viewOf W .connection) s) ≡ u
+              → andThen x (λ y. goesBy u) ≡ goesBy u
+          unfolding andThen
+          past-by (refuse j) u h l q = let y : 20 ≤ j = h j (sym q) in let x : j < 20 = turned Low l in absurd (omega arith)
+          past-by (accept x) u h l q = refl
+
+          past : (u : Verdict K.Outcome) → ruleOf (connectionIn W) the-call ≡ u → ((k : ℕ) → u ≡ refuse k → 20 ≤ k) → comesTo W (outgoing s out) ≡ goesBy u
+          past u q h =
+              comes ∙ ap (λ y. andThen (sessionFrame (settingsOf W .channelMax) s) (λ x. goesBy y)) q
+              ∙ past-by (sessionFrame (settingsOf W .channelMax) s) u h (session-low _ s) (sym calls ∙ q)
+
+        -- refused because of the input
+        pub outgoing-input : (r : OnOutgoing) (out′ : List ℕ) (a : Written) (d : Connection) (t′ : List ℕ) (k : ℕ) → Answers a out′ d t′ → a ≡ NotWritten k → k < 20 → NotSent k r → Sends r out′ t′
+        outgoing-input r out′ a d t′ k p q l w id =
+            let same = p id .does .refused k (ap sentSays q) in
+            in-them out′ id _ _
+            (refuses-so r k out′ t′ id
+            (λ z. comes id ∙ input-by id (sessionFrame (settingsOf (W id) .channelMax) s) k (session-low _ s) (sym (calls id) ∙ inner-refused the-call (connectionIn (W id)) (View.whole d t′ id) k _ out′ (p id .does) (ap sentSays q) z) l)
+            (same .1) (ap (λ x. x .tables) (same .0)) w)
+
+        -- refused because of the state
+        pub outgoing-failing :
+            (r : OnOutgoing) (out′ out″ : List ℕ) (a : Written) (d : Connection) (t′ : List ℕ) (k : ℕ) (error : InnerError) (l : Landed) → Answers a out′ d t′ → a ≡ NotWritten k → 20 ≤ k
+            → errorSays error ≡ sendFault k → ((u id : List ℕ) → Fails (errorSays error) (View.whole d u id) 0 out′ out″ (landedIn l u id)) → r ≡ outgoingFrom l k → Sends r out″ t′
+        outgoing-failing r out′ out″ a d t′ k error l p q h er fa g id =
+            let same = p id .does .refused k (ap sentSays q) in
+            let L = landedIn l t′ id in
+            let f′ : Fails (sendFault k) (connectionIn (W id)) 0 out out″ L =
+            subst (λ x. Fails (sendFault k) (connectionIn (W id)) 0 x out″ L) (same .1)
+            (subst (λ x. Fails (sendFault k) x 0 out′ out″ L) (same .0) (subst (λ x. Fails x (View.whole d t′ id) 0 out′ out″ L) er (fa t′ id))) in
+            in-them out″ id _ _
+            (gone-does (outgoing s out) (W id) out″ l t′ id k r g
+            (lands-does (outgoing s out) (W id) (fail (roleOf (W id)) (settingsOf (W id)) (sendFault k) (viewOf (W id) .connection) [] out) 0 0 (some (refuse k)) (some (refuse k)) out″ L
+            (λ z. past id (refuse k) (inner-refused the-call (connectionIn (W id)) (View.whole d t′ id) k _ out′ (p id .does) (ap sentSays q) z) (λ j w. let x : k ≡ j = cc in omega arith))
+            (λ z. refl) (λ z. refl)
+            (λ z. f′ .fails z [] out refl (sym (laid-is [] out)) has has)
+            (f′ .fails-keeps)))
+
+        -- written
+        pub outgoing-done :
+            (out′ : List ℕ) (a : Written) (d : Connection) (t′ : List ℕ) (n : ℕ) (e′ : ConnectionEngine) (rr : R.Running) → Answers a out′ d t′ → a ≡ Bytes n → Settles d e′ → rr ≡ goesOn (e′ .phase)
+            → (id : List ℕ) → DoesIn (outgoing s out) (whole e t id) (replySays rr 0 n (some (sentSays (Bytes n)))) out′ (whole e′ t′ id)
+        outgoing-done out′ a d t′ n e′ rr p q st g id =
+            let R = ruleOf (connectionIn (W id)) the-call in
+            let D = View.whole d t′ id in
+            let D′ = View.whole (e′ .connection) t′ id in
+            let l : LandedIn = record { phase = e′ .phase; written = n; connection = D′ } in
+            let settled-in : D′ ≡ D = ap (λ x. View.whole x t′ id) (st .settles-with) in
+            let w : Sound (W id) → Accepted the-call (connectionIn (W id)) D (wrote n) out′ = λ z. inner-accepted the-call (connectionIn (W id)) D (wrote n) _ out′ (p id .does) (ap sentSays q) z in
+            subst (λ x. DoesIn (outgoing s out) (W id) (replySays x 0 n (some (accept (wrote n)))) out′ (whole e′ t′ id)) (sym g)
+            (in-them out′ id _ _
+            (lands-does (outgoing s out) (W id) (landsBy id R) 0 0 (some (trailBy id R .last)) (some (accept (wrote n))) out′ l
+            (λ z. past id R refl (λ k x. let y : accept (w z .outcome) ≡ refuse k = sym (w z .accepts) ∙ x in let o : _≡_ {A = ℕ} 0 1 = cc in absurd (omega arith)))
+            (λ z. refl)
+            (λ z. ap (λ x. some (accept x)) (sym (w z .answers)) ∙ ap (λ x. some (trailBy id x .last)) (sym (w z .accepts)))
+            (λ z. subst (λ x. Lands (landsBy id x) out out′ l) (sym (w z .accepts)) (record {
+              lands-phase = st .settles ∙ ap (λ c. settled (c .state)) (w z .leads);
+              lands-connection = ap View.viewOf settled-in ∙ w z .leads;
+              lands-count = sym (w z .counts) ∙ ap length (sym (append-nil (w z .outcome .bytes)));
+              lands-output = w z .puts ∙ ap (λ x. laid (accept x) out) (sym (append-nil (w z .outcome .bytes)));
+            }))
+            (keeps-on (connectionIn (W id)) D D′ (keeps-of the-call (connectionIn (W id)) D (sentSays a) out′ (p id .does)) (keeps-as D D′ settled-in))))

@@ -1,13 +1,12 @@
 -- What is written behind what stands there already.
 -- Assumes nothing.
-use mathlib.Core.Path.{_≡_, refl, sym, _∙_, ap, subst}
-use mathlib.Core.Bool.{Bool, true, false}
-use mathlib.Core.List.{List, [], _∷_, _++_, append-assoc, append-nil}
-use Prim.Native.Nat.{ℕ, _+_, _-_, _*_, _≤_}
+use mathlib.Core.Path.{_≡_, refl, sym, _∙_, ap}
+use mathlib.Core.List.{List, [], _++_, append-assoc, append-nil}
+use Prim.Native.Nat.{ℕ, _+_, _-_, _≤_}
 use native.Mathlib.Omega.{arith}
 use lib.ListN.{length, take, drop, length-append, length-drop}
 use lib.Seq.{take-all, drop-append-seam, take-append-seam, drop-drop, drop-length}
-use Rattle.octets.specs.Verdict.{Verdict, refuse, accept}
+use Rattle.octets.specs.Verdict.{accept}
 use Rattle.octets.specs.Output.{laid}
 
 pub laid-is : (b lent : List ℕ) → laid (accept b) lent ≡ b ++ drop (length b) lent

@@ -2,7 +2,7 @@
 -- Assumes nothing.
 use mathlib.Core.Path.{_≡_, refl, sym, _∙_, ap, subst}
 use mathlib.Core.Bool.{Bool, true, false, cond, not}
-use mathlib.Core.List.{List, [], _∷_}
+use mathlib.Core.List.{[], _∷_}
 use Prim.Native.Nat.{ℕ}
 use types.Run.{OneOf, miss}
 use denote.Enum.Declared.{tagOf}
@@ -14,24 +14,22 @@ use Rattle.connection_state.proofs.Laws.{failing, fails}
 use Rattle.connection_state.proofs.ConnectionState.{the-type as state-type}
 use Rattle.connection_state.specs.Answers.{stateSays}
 use Rattle.connection_state.specs.declared.ConnectionState.{ConnectionState}
-use Rattle.connection.specs.View as View
 use Rattle.connection.specs.declared.Connection.{Connection}
 use Rattle.engine_model.specs.Engine as M
 use Rattle.engine.specs.declared.Outcome.{Outcome}
 use Rattle.engine.specs.declared.Outcome.the-variants.{Fine, TransportError, IllegalState}
 use Rattle.engine.specs.declared.Phase.{Phase}
 use Rattle.engine.specs.declared.Phase.the-variants.{Running, Awaiting, Stopped}
-use Rattle.engine.specs.declared.Running as R
-use Rattle.engine.specs.declared.Running.the-variants.{Continue, Stop, Refused}
+use Rattle.engine.specs.declared.Running.the-variants.{Continue, Stop}
 use Rattle.engine.proofs.Phase.{the-type}
 use Rattle.engine.specs.Answers.{phaseSays, outcomeSays, goesOn}
 use Rattle.engine.specs.Promises.{Settles, notClosed}
 
-pub over : (c : Connection) (x : ConnectionState) (b : Bool) → stateSays x ≡ View.viewOf c .state → b ≡ is End (stateSays x) → b ≡ true → Settles c (record { phase = Stopped Fine; connection = c })
-over c x b s e t = record { settles = ap (λ u. cond u (M.stopped M.fine) M.running) (sym t ∙ e ∙ ap (is End) s); settles-with = refl }
+pub over : (c : Connection) (x : ConnectionState) (b : Bool) → x ≡ c .«local_state» → b ≡ is End (stateSays x) → b ≡ true → Settles c (record { phase = Stopped Fine; connection = c })
+over c x b s e t = record { settles = ap (λ u. cond u (M.stopped M.fine) M.running) (sym t ∙ e ∙ ap (λ y. is End (stateSays y)) s); settles-with = refl }
 
-pub on : (c : Connection) (x : ConnectionState) (b : Bool) → stateSays x ≡ View.viewOf c .state → b ≡ is End (stateSays x) → b ≡ false → Settles c (record { phase = Running; connection = c })
-on c x b s e f = record { settles = ap (λ u. cond u (M.stopped M.fine) M.running) (sym f ∙ e ∙ ap (is End) s); settles-with = refl }
+pub on : (c : Connection) (x : ConnectionState) (b : Bool) → x ≡ c .«local_state» → b ≡ is End (stateSays x) → b ≡ false → Settles c (record { phase = Running; connection = c })
+on c x b s e f = record { settles = ap (λ u. cond u (M.stopped M.fine) M.running) (sym f ∙ e ∙ ap (λ y. is End (stateSays y)) s); settles-with = refl }
 
 pub goes-running : (p : Phase) → OneOf (0 ∷ []) (tagOf the-type p) → Continue ≡ goesOn p
 goes-running Running o = refl

@@ -1,11 +1,10 @@
 -- A frame that came: what its refusal leads to, whether it is a Close, and what it consumes.
 -- Assumes nothing.
 use mathlib.Core.Path.{_≡_, refl, sym, _∙_, ap, subst}
-use mathlib.Core.Bool.{Bool, true, false, cond, _||_, _&&_}
+use mathlib.Core.Bool.{Bool, true, false, cond, _&&_}
 use mathlib.Core.List.{List, [], _∷_}
 use mathlib.Core.Option.{Option, none, some}
 use Prim.Native.Nat.{ℕ}
-use native.Mathlib.Omega.{arith}
 use lib.Dec.{eqb}
 use borrow.Author.Tests.{eq-eqb, ne-eqb}
 use types.Run.{OneOf, hit, miss}
@@ -52,7 +51,8 @@ use Rattle.engine.specs.declared.Landed.{Landed}
 use Rattle.engine.proofs.Phase.{the-type as phase-type}
 use Rattle.engine.specs.Reading.{answersClose}
 use Rattle.engine.specs.Answers.{phaseSays, outcomeSays, errorSays}
-use Rattle.engine.specs.Promises.{consumedFor, lacksBytes, closeOf, awaitedBy, LeadsTo, Fails, Lands}
+use Rattle.engine.specs.Promises.{consumedFor, closeOf, awaitedBy, LandedIn, landedIn, LeadsTo, Fails, Lands}
+use Rattle.engine.proofs.Failing.{keeps-self}
 
 -- ---- what a refusal leads to
 
@@ -161,19 +161,6 @@ module _ (a : FrameAnswer) (size k : ℕ) (q : a ≡ Refused k) where
   pub consumes-size : (k ≡ 3 → ⊥) → (k ≡ 4 → ⊥) → size ≡ consumedFor (answerSays a) size
   consumes-size n m = rw (q, ne-eqb k 3 n, ne-eqb k 4 m)
 
--- ---- bytes missing
-
-pub lacks-not : (a : FrameAnswer) → OneOf (0 ∷ 1 ∷ 2 ∷ 3 ∷ 4 ∷ []) (tagOf answer-type a) → false ≡ lacksBytes (answerSays a)
-lacks-not (NothingToDo n) o = refl
-lacks-not (Opened n idle) o = refl
-lacks-not (Closed n error) o = refl
-lacks-not (Forward n code h from len) o = refl
-lacks-not (Began n ch h from len) o = refl
-lacks-not (Refused k) o = absurd (miss (0 ∷ 1 ∷ 2 ∷ 3 ∷ 4 ∷ []) 5 tt o)
-
-pub lacks-by : (a : FrameAnswer) (k : ℕ) (b : Bool) → a ≡ Refused k → b ≡ eqb k 1 → b ≡ lacksBytes (answerSays a)
-lacks-by a k b q e = e ∙ ap (λ x. lacksBytes (answerSays x)) (sym q)
-
 -- ---- phases after a read
 
 pub phase-closed : (a : FrameAnswer) (n : ℕ) (error : Bool) (x y : ConnectionState) (o : O.Outcome) → a ≡ Closed n error → outcomeSays o ≡ closedBy M.fine (stateSays x) error → phaseSays (Stopped o) ≡ phaseRead (closeOf (answerSays a)) (stateSays x) (stateSays y)
@@ -194,14 +181,17 @@ pub phase-on : (a : FrameAnswer) (x y : ConnectionState) (b : Bool) → OneOf (0
 phase-on a x y b o e f = ap (λ u. cond u (M.stopped M.fine) M.running) (sym f ∙ e) ∙ settles-by a (stateSays x) (stateSays y) o
 
 module _ (kept : O.Outcome) (c : Connection) (a : FrameAnswer) where
-  abbrev Awaited : Phase → Type 0
-  Awaited p = phaseSays p ≡ awaitedBy (View.roleOf c) (outcomeSays kept) (View.viewOf c .state) (answerSays a)
+  abbrev awaitsBy : FrameAnswer → M.Phase
+  awaitsBy b = awaitedBy (roleSays (c .endpoint .role)) (outcomeSays kept) (stateSays (c .«local_state»)) (answerSays b)
 
-  pub awaited-refused : (k : ℕ) (role : E.Role) (error : InnerError) (o : O.Outcome) → a ≡ Refused k → roleSays role ≡ View.roleOf c → errorSays error ≡ readFault (roleSays role) k → outcomeSays o ≡ M.outcomeOf (errorSays error) → Awaited (Stopped o)
-  awaited-refused k role error o q r e w = ap M.stopped (w ∙ ap M.outcomeOf (e ∙ ap (λ u. readFault u k) r)) ∙ ap (λ u. awaitedBy (View.roleOf c) (outcomeSays kept) (View.viewOf c .state) (answerSays u)) (sym q)
+  pub awaited-refused :
+      (k : ℕ) (role : E.Role) (error : InnerError) (o : O.Outcome) → a ≡ Refused k → role ≡ c .endpoint .role → errorSays error ≡ readFault (roleSays role) k → outcomeSays o ≡ M.outcomeOf (errorSays error)
+      → phaseSays (Stopped o) ≡ awaitsBy a
+  awaited-refused k role error o q r e w = ap M.stopped (w ∙ ap M.outcomeOf (e ∙ ap (λ u. readFault (roleSays u) k) r)) ∙ ap awaitsBy (sym q)
 
-  pub awaited-closed : (n : ℕ) (error : Bool) (x : ConnectionState) (o : O.Outcome) → a ≡ Closed n error → stateSays x ≡ View.viewOf c .state → outcomeSays o ≡ closedBy (outcomeSays kept) (stateSays x) error → Awaited (Stopped o)
-  awaited-closed n error x o q s w = ap M.stopped (w ∙ ap (λ u. closedBy (outcomeSays kept) u error) s) ∙ ap (λ u. awaitedBy (View.roleOf c) (outcomeSays kept) (View.viewOf c .state) (answerSays u)) (sym q)
+  pub awaited-closed :
+      (n : ℕ) (error : Bool) (x : ConnectionState) (o : O.Outcome) → a ≡ Closed n error → x ≡ c .«local_state» → outcomeSays o ≡ closedBy (outcomeSays kept) (stateSays x) error → phaseSays (Stopped o) ≡ awaitsBy a
+  awaited-closed n error x o q s w = ap M.stopped (w ∙ ap (λ u. closedBy (outcomeSays kept) (stateSays u) error) s) ∙ ap awaitsBy (sym q)
 
 awaits-by : (o : M.Outcome) (role : K.Role) (x : S.State) (a : FrameAnswer) → OneOf (0 ∷ 1 ∷ 3 ∷ 4 ∷ []) (tagOf answer-type a) → M.awaiting o ≡ awaitedBy role o x (answerSays a)
 awaits-by o role x (NothingToDo n) h = refl
@@ -219,21 +209,29 @@ not-both (Forward n code handle from len) o h = hit (0 ∷ 1 ∷ 3 ∷ 4 ∷ [])
 not-both (Began n ch handle from len) o h = hit (0 ∷ 1 ∷ 3 ∷ 4 ∷ []) 4 tt
 not-both (Refused k) o h = absurd (miss (0 ∷ 1 ∷ 2 ∷ 3 ∷ 4 ∷ []) 5 tt o)
 
-pub awaited-on : (kept : O.Outcome) (c : Connection) (a : FrameAnswer) → OneOf (0 ∷ 1 ∷ 2 ∷ 3 ∷ 4 ∷ []) (tagOf answer-type a) → OneOf (0 ∷ 1 ∷ 3 ∷ 4 ∷ 5 ∷ []) (tagOf answer-type a) → phaseSays (Awaiting kept) ≡ awaitedBy (View.roleOf c) (outcomeSays kept) (View.viewOf c .state) (answerSays a)
-awaited-on kept c a o h = awaits-by (outcomeSays kept) (View.roleOf c) (View.viewOf c .state) a (not-both a o h)
+pub awaited-on :
+    (kept : O.Outcome) (c : Connection) (a : FrameAnswer) → OneOf (0 ∷ 1 ∷ 2 ∷ 3 ∷ 4 ∷ []) (tagOf answer-type a) → OneOf (0 ∷ 1 ∷ 3 ∷ 4 ∷ 5 ∷ []) (tagOf answer-type a)
+    → phaseSays (Awaiting kept) ≡ awaitedBy (roleSays (c .endpoint .role)) (outcomeSays kept) (stateSays (c .«local_state»)) (answerSays a)
+awaited-on kept c a o h = awaits-by (outcomeSays kept) (roleSays (c .endpoint .role)) (stateSays (c .«local_state»)) a (not-both a o h)
 
 -- ---- where a read leads
 
 module _ (x : S.State) (c : Connection) (n : ℕ) (out : List ℕ) where
+  -- whatever the connection is lent
+  abbrev Leads : FrameAnswer → List ℕ → Landed → Type 0
+  Leads a out′ l = (t id : List ℕ) → LeadsTo x (answerSays a) (View.whole c t id) n out out′ (landedIn l t id)
+
   pub leads-failing :
-      (a : FrameAnswer) (k : ℕ) (role : E.Role) (error : InnerError) (out′ : List ℕ) (l : Landed) → a ≡ Refused k → roleSays role ≡ View.roleOf c → errorSays error ≡ readFault (roleSays role) k
-      → Fails (errorSays error) c n out out′ l → LeadsTo x (answerSays a) c n out out′ l
-  leads-failing a k role error out′ l q r e f = record {
-    leads-keeps = f .fails-keeps;
-    leads-to = λ z bytes lent m o y y′.
-        subst (λ u. Lands (M.readTo (View.roleOf c) (View.settingsOf c) lent x (answerSays u) (View.viewOf c) bytes) lent out′ l) (sym q)
-        (subst (λ u. Lands (M.fail (View.roleOf c) (View.settingsOf c) u (View.viewOf c) bytes lent) lent out′ l) (e ∙ ap (λ u. readFault u k) r) (f .fails z bytes lent m o y y′));
-  }
+      (a : FrameAnswer) (k : ℕ) (role : E.Role) (error : InnerError) (out′ : List ℕ) (l : Landed) → a ≡ Refused k → role ≡ c .endpoint .role → errorSays error ≡ readFault (roleSays role) k
+      → ((t id : List ℕ) → Fails (errorSays error) (View.whole c t id) n out out′ (landedIn l t id)) → Leads a out′ l
+  leads-failing a k role error out′ l q r e f t id =
+      let w = View.whole c t id in
+      record {
+        leads-keeps = f t id .fails-keeps;
+        leads-to = λ z bytes lent m o y y′.
+            subst (λ u. Lands (M.readTo (View.roleOf w) (View.settingsOf w) lent x (answerSays u) (View.viewOf w) bytes) lent out′ (landedIn l t id)) (sym q)
+            (subst (λ u. Lands (M.fail (View.roleOf w) (View.settingsOf w) u (View.viewOf w) bytes lent) lent out′ (landedIn l t id)) (e ∙ ap (λ u. readFault (roleSays u) k) r) (f t id .fails z bytes lent m o y y′));
+      }
 
   taken-is : (a : FrameAnswer) → OneOf (0 ∷ 1 ∷ 2 ∷ 3 ∷ 4 ∷ []) (tagOf answer-type a) → (b : K.Answer) × (answerSays a ≡ accept b)
   taken-is (NothingToDo m) o = (K.nothingToDo m, refl)
@@ -244,15 +242,17 @@ module _ (x : S.State) (c : Connection) (n : ℕ) (out : List ℕ) where
   taken-is (Refused k) o = absurd (miss (0 ∷ 1 ∷ 2 ∷ 3 ∷ 4 ∷ []) 5 tt o)
 
   pub leads-on :
-      (a : FrameAnswer) (y : ConnectionState) (p : Phase) → OneOf (0 ∷ 1 ∷ 2 ∷ 3 ∷ 4 ∷ []) (tagOf answer-type a) → stateSays y ≡ View.viewOf c .state → phaseSays p ≡ phaseRead (closeOf (answerSays a)) x (stateSays y)
-      → LeadsTo x (answerSays a) c n out out (record { phase = p; written = n; connection = c })
-  leads-on a y p o s e =
+      (a : FrameAnswer) (y : ConnectionState) (p : Phase) → OneOf (0 ∷ 1 ∷ 2 ∷ 3 ∷ 4 ∷ []) (tagOf answer-type a) → y ≡ c .«local_state» → phaseSays p ≡ phaseRead (closeOf (answerSays a)) x (stateSays y)
+      → Leads a out (record { phase = p; written = n; connection = c })
+  leads-on a y p o s e t id =
       let b = taken-is a o in
+      let w = View.whole c t id in
+      let l : LandedIn = record { phase = p; written = n; connection = w } in
       record {
-        leads-keeps = record { keeps-role = refl; keeps-settings = refl; keeps-sound = λ z. z };
+        leads-keeps = keeps-self w;
         leads-to = λ z bytes lent m q r r′.
-            subst (λ u. Lands (M.readTo (View.roleOf c) (View.settingsOf c) lent x u (View.viewOf c) bytes) lent out (record { phase = p; written = n; connection = c })) (sym (b .1)) (record {
-              lands-phase = e ∙ (λ t. phaseRead (closeOf (b .1 t)) x (s t));
+            subst (λ u. Lands (M.readTo (View.roleOf w) (View.settingsOf w) lent x u (View.viewOf w) bytes) lent out l) (sym (b .1)) (record {
+              lands-phase = e ∙ (λ i. phaseRead (closeOf (b .1 i)) x (stateSays (s i)));
               lands-connection = refl;
               lands-count = m;
               lands-output = q;
@@ -278,19 +278,27 @@ answered-taken role a x y p o e = e ∙ read-answered (roleSays role) x y a o
 -- ---- whether it is to be answered
 
 pub answers-received :
-    (c : Connection) (limit highest : ℕ) (s : List ℕ) (x : ConnectionState) (b : Bool) → x ≡ CloseReceived → limit ≡ View.viewOf c .readingLimit → highest ≡ View.settingsOf c .channelMax → b ≡ isClose (readFrame limit highest s)
-    → b ≡ answersClose (View.viewOf c .readingLimit) (View.settingsOf c .channelMax) s (stateSays x)
-answers-received c limit highest s x b q l h e =
-    e ∙ (λ i. isClose (readFrame (l i) (h i) s)) ∙ both (isClose (readFrame (View.viewOf c .readingLimit) (View.settingsOf c .channelMax) s))
-    ∙ ap (λ u. isClose (readFrame (View.viewOf c .readingLimit) (View.settingsOf c .channelMax) s) && is S.CloseReceived (stateSays u)) (sym q)
+    (c : Connection) (limit highest : ℕ) (s : List ℕ) (x : ConnectionState) (b : Bool) → x ≡ CloseReceived → limit ≡ c .endpoint .«reading_limit» → highest ≡ c .endpoint .«local_open» .«channel_max»
+    → b ≡ isClose (readFrame limit highest s) → (t id : List ℕ) → b ≡ answersClose (View.viewOf (View.whole c t id) .readingLimit) (View.settingsOf (View.whole c t id) .channelMax) s (stateSays x)
+answers-received c limit highest s x b q l h e t id =
+    e ∙ (λ i. isClose (readFrame (l i) (h i) s)) ∙ both close ∙ ap (λ u. close && is S.CloseReceived (stateSays u)) (sym q)
   where
+    close : Bool
+    close = isClose (readFrame (View.viewOf (View.whole c t id) .readingLimit) (View.settingsOf (View.whole c t id) .channelMax) s)
+
     both : (v : Bool) → v ≡ (v && true)
     both true = refl
     both false = refl
 
-pub answers-not : (limit highest : ℕ) (s : List ℕ) (x : ConnectionState) → OneOf (failing (is S.CloseReceived) states) (tagOf state-type x) → false ≡ answersClose limit highest s (stateSays x)
-answers-not limit highest s x h = neither (isClose (readFrame limit highest s)) ∙ ap (λ u. isClose (readFrame limit highest s) && u) (fails (is S.CloseReceived) x h)
+pub answers-not :
+    (c : Connection) (s : List ℕ) (x : ConnectionState) → OneOf (failing (is S.CloseReceived) states) (tagOf state-type x)
+    → (t id : List ℕ) → false ≡ answersClose (View.viewOf (View.whole c t id) .readingLimit) (View.settingsOf (View.whole c t id) .channelMax) s (stateSays x)
+answers-not c s x h t id =
+    neither close ∙ ap (λ u. close && u) (fails (is S.CloseReceived) x h)
   where
+    close : Bool
+    close = isClose (readFrame (View.viewOf (View.whole c t id) .readingLimit) (View.settingsOf (View.whole c t id) .channelMax) s)
+
     neither : (v : Bool) → false ≡ (v && false)
     neither true = refl
     neither false = refl

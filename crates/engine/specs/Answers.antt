@@ -1,15 +1,16 @@
 -- What an engine stands for in its definition, and what the answers of its events say.
 -- Assumes nothing: these are definitions.
 use mathlib.Core.Path.{_≡_}
-use mathlib.Core.Bool.{Bool, true, false}
+use mathlib.Core.List.{List}
 use mathlib.Core.Option.{Option, none, some}
 use Prim.Native.Nat.{ℕ}
 use Rattle.octets.specs.Verdict.{Verdict, refuse, accept}
 use Rattle.octets.specs.declared.Written.{Written}
 use Rattle.octets.specs.declared.Written.the-variants.{Bytes, Refused as NotWritten}
 use Rattle.frame_encoder.specs.Frames.{Settings}
-use Rattle.connection_model.specs.Connection.{Role, Answer, freed}
+use Rattle.connection_model.specs.Connection.{Role, Answer}
 use Rattle.connection.specs.View as C
+use Rattle.connection.specs.declared.Connection.{Connection}
 use Rattle.connection.specs.declared.TickAnswer.{TickAnswer}
 use Rattle.connection.specs.declared.TickAnswer.the-variants.{Wrote, Stop as Idle, Refused as NotTicked}
 use Rattle.engine_model.specs.Engine as M
@@ -21,8 +22,6 @@ use Rattle.engine.specs.declared.Phase.{Phase}
 use Rattle.engine.specs.declared.Phase.the-variants.{Running, Awaiting, Stopped}
 use Rattle.engine.specs.declared.Running as R
 use Rattle.engine.specs.declared.Running.the-variants.{Continue, Stop, Refused}
-use Rattle.engine.specs.declared.DeallocateAnswer.{DeallocateAnswer}
-use Rattle.engine.specs.declared.DeallocateAnswer.the-variants.{Freed, Refused as NotFreed}
 use Rattle.engine.specs.declared.error.InnerError.{InnerError}
 use Rattle.engine.specs.declared.error.InnerError.the-variants.{TransportError as TransportFailed, IllegalState as StateIllegal, NotFound as Unknown, SessionNotFound, OutgoingChannelNotFound, NotImplemented as Missing, RemoteSession}
 use Rattle.engine.specs.declared.ConnectionEngine.{ConnectionEngine}
@@ -41,18 +40,34 @@ phaseSays Running = running
 phaseSays (Awaiting o) = awaiting (outcomeSays o)
 phaseSays (Stopped o) = stopped (outcomeSays o)
 
-abbrev pub roleOf : ConnectionEngine → Role
-roleOf e = C.roleOf (e .connection)
+-- an engine with what it is lent: its tables, and the container-id of its settings
+pub record Whole : Type 0 where
+  pub engine : ConnectionEngine
+  pub tables : List ℕ
+  pub id : List ℕ
 
-abbrev pub settingsOf : ConnectionEngine → Settings
-settingsOf e = C.settingsOf (e .connection)
+abbrev pub whole : ConnectionEngine → List ℕ → List ℕ → Whole
+whole e t id = record { engine = e; tables = t; id = id }
 
-abbrev pub viewOf : ConnectionEngine → M.Engine
-viewOf e = record { phase = phaseSays (e .phase); connection = C.viewOf (e .connection) }
+-- an engine in a phase with a connection
+abbrev pub engineOf : Phase → Connection → ConnectionEngine
+engineOf p c = record { phase = p; connection = c }
+
+abbrev pub connectionIn : Whole → C.Whole
+connectionIn w = C.whole (w .engine .connection) (w .tables) (w .id)
+
+abbrev pub roleOf : Whole → Role
+roleOf w = C.roleOf (connectionIn w)
+
+abbrev pub settingsOf : Whole → Settings
+settingsOf w = C.settingsOf (connectionIn w)
+
+abbrev pub viewOf : Whole → M.Engine
+viewOf w = record { phase = phaseSays (w .engine .phase); connection = C.viewOf (connectionIn w) }
 
 -- an engine is sound where its connection is
-abbrev pub Sound : ConnectionEngine → Type 0
-Sound e = C.Sound (e .connection)
+abbrev pub Sound : Whole → Type 0
+Sound w = C.Sound (connectionIn w)
 
 -- ---- errors
 
@@ -93,10 +108,6 @@ Bare (Refused k) consumed written P = (consumed ≡ 0) × (written ≡ 0) × P k
 abbrev pub openingSays : ℕ → ℕ → Verdict Answer → Verdict Reply
 openingSays consumed written (refuse k) = refuse k
 openingSays consumed written (accept a) = reply none consumed written (some (accept a))
-
-abbrev pub freedSays : DeallocateAnswer → Verdict Answer
-freedSays (Freed h) = accept (freed h)
-freedSays (NotFreed k) = refuse k
 
 -- how many bytes were written
 abbrev pub sentCount : Written → ℕ

@@ -12,15 +12,18 @@ use connection::Connection;
 use connection_state::ConnectionState;
 use endpoint::Role;
 ghost use mathlib.Core.Path.{_≡_};
+ghost use mathlib.Core.List.{List};
 ghost use mathlib.Core.Option.{none, some};
+ghost use Prim.Native.Nat.{ℕ};
 ghost use Rattle.connection_state.specs.Answers.{stateSays};
 ghost use Rattle.connection_state.specs.States.{isOneOf};
 ghost use Rattle.endpoint.specs.Answers.{roleSays};
+ghost use Rattle.connection.specs.View as View;
 ghost use Rattle.engine_model.specs.Engine as M;
 ghost use Rattle.engine_model.specs.Engine.{cutShort, notDelivered, endOfInput};
 ghost use Rattle.engine.specs.declared.Running.the-variants.{Refused as NotRun};
-ghost use Rattle.engine.specs.Answers.{phaseSays, errorSays, replySays, Bare};
-ghost use Rattle.engine.specs.Promises.{Does, Ends, Handled, endable};
+ghost use Rattle.engine.specs.Answers.{whole, phaseSays, errorSays, replySays, Bare};
+ghost use Rattle.engine.specs.Promises.{Does, Ends, Handled, endable, landedIn};
 
 // What could not be delivered.
 fn undelivered(role: Role, new_session: bool) -> InnerError
@@ -60,7 +63,7 @@ fn cut_short(phase: Phase) -> Phase
 
 // The input ends while the engine runs.
 fn input_ends(connection: Connection, out: &mut [u8]) -> Landed
-    ensures { λ r. ⌜ Ends connection (now (out .entry)) (now (out .exit)) r ⌝ }
+    ensures { λ r. ⌜ ((t id : List ℕ) → Ends (View.whole connection t id) (now (out .entry)) (now (out .exit)) (landedIn r t id)) ⌝ }
 {
     if may_end(connection.state()) {
         return Landed {
@@ -108,7 +111,7 @@ impl ConnectionEngine {
 
     // A frame that was handed on, or a new session, could not be delivered.
     pub fn on_not_delivered(self, new_session: bool, out: &mut [u8]) -> OnError
-        ensures { λ r. ⌜ Does (notDelivered «new_session» (now (out .entry))) self (replySays (r .running) 0 (r .written) none) (now (out .exit)) (r .engine) × Bare (r .running) 0 (r .written) (λ k. Unit {0}) ⌝ }
+        ensures { λ r. ⌜ ((t id : List ℕ) → Does (notDelivered «new_session» (now (out .entry))) (whole self t id) (replySays (r .running) 0 (r .written) none) (now (out .exit)) (whole (r .engine) t id)) × Bare (r .running) 0 (r .written) (λ k. Unit {0}) ⌝ }
     {
         if out.len() < OUTPUT_ROOM {
             return self.not_handled(9);
@@ -124,7 +127,7 @@ impl ConnectionEngine {
 
     // There is no more input.
     pub fn on_end_of_input(self, out: &mut [u8]) -> OnError
-        ensures { λ r. ⌜ Does (endOfInput (now (out .entry))) self (replySays (r .running) 0 (r .written) none) (now (out .exit)) (r .engine) × Bare (r .running) 0 (r .written) (λ k. Unit {0}) ⌝ }
+        ensures { λ r. ⌜ ((t id : List ℕ) → Does (endOfInput (now (out .entry))) (whole self t id) (replySays (r .running) 0 (r .written) none) (now (out .exit)) (whole (r .engine) t id)) × Bare (r .running) 0 (r .written) (λ k. Unit {0}) ⌝ }
     {
         if out.len() < OUTPUT_ROOM {
             return self.not_handled(9);

@@ -9,13 +9,15 @@ use connection_state::ConnectionState;
 use endpoint::Role;
 use octets::Written;
 ghost use mathlib.Core.Path.{_≡_};
-ghost use Prim.Native.Nat.{_≤_};
+ghost use mathlib.Core.List.{List};
+ghost use Prim.Native.Nat.{ℕ, _≤_};
 ghost use lib.ListN.{length};
 ghost use Rattle.connection_state.specs.Answers.{stateSays};
 ghost use Rattle.endpoint.specs.Answers.{roleSays, sentSays};
+ghost use Rattle.connection.specs.View as View;
 ghost use Rattle.engine_model.specs.Engine.{outcomeOf, sendFault, readFault, closedWith};
 ghost use Rattle.engine.specs.Answers.{phaseSays, outcomeSays, errorSays};
-ghost use Rattle.engine.specs.Promises.{SendsError, Fails, notClosed};
+ghost use Rattle.engine.specs.Promises.{SendsError, Fails, notClosed, landedIn};
 
 // An error inside an event: the outcome that it leads to, and what the peer is told.
 pub(crate) enum InnerError {
@@ -77,7 +79,7 @@ pub(crate) fn incoming_error(role: Role, k: u8) -> InnerError
 
 // Tells the peer of an error by a Close. Of a transport error it is told nothing.
 fn send_error(connection: Connection, error: InnerError, out: &mut [u8]) -> Sent
-    ensures { λ r. ⌜ SendsError (errorSays error) connection (sentSays (r .answer)) (now (out .entry)) (now (out .exit)) (r .connection) ⌝ }
+    ensures { λ r. ⌜ ((t id : List ℕ) → SendsError (errorSays error) (View.whole connection t id) (sentSays (r .answer)) (now (out .entry)) (now (out .exit)) (View.whole (r .connection) t id)) ⌝ }
 {
     match error {
         InnerError::TransportError => Sent {
@@ -149,7 +151,7 @@ pub(crate) fn on_error(
     out: &mut [u8],
 ) -> Landed
     requires { ⌜ written ≤ length (now out) ⌝ }
-    ensures { λ r. ⌜ Fails (errorSays error) connection written (now (out .entry)) (now (out .exit)) r ⌝ }
+    ensures { λ r. ⌜ ((t id : List ℕ) → Fails (errorSays error) (View.whole connection t id) written (now (out .entry)) (now (out .exit)) (landedIn r t id)) ⌝ }
 {
     let outcome = outcome_of(error);
     let sent = send_error(connection, error, &mut out[written..]);

@@ -6,18 +6,20 @@ use crate::room::OUTPUT_ROOM;
 use crate::settling::settle;
 use connection::TickAnswer;
 ghost use mathlib.Core.Path.{_≡_};
+ghost use mathlib.Core.List.{List};
 ghost use mathlib.Core.Option.{some};
+ghost use Prim.Native.Nat.{ℕ};
 ghost use Rattle.connection.specs.declared.TickAnswer.the-variants.{Refused as NotTicked};
 ghost use Rattle.connection.specs.View.{tickSays};
 ghost use Rattle.engine_model.specs.Engine as M;
 ghost use Rattle.engine.specs.declared.Running.the-variants.{Refused as NotRun};
-ghost use Rattle.engine.specs.Answers.{replySays, Bare, tickCount};
+ghost use Rattle.engine.specs.Answers.{whole, replySays, Bare, tickCount};
 ghost use Rattle.engine.specs.Promises.{Does};
 
 impl ConnectionEngine {
     // Writes the empty frame that keeps an idle connection alive.
     pub fn on_heartbeat(self, out: &mut [u8]) -> OnHeartbeat
-        ensures { λ r. ⌜ Does (M.tick (now (out .entry))) self (replySays (r .running) 0 (tickCount (r .answer)) (some (tickSays (r .answer)))) (now (out .exit)) (r .engine) × Bare (r .running) 0 0 (λ k. r .answer ≡ NotTicked k) ⌝ }
+        ensures { λ r. ⌜ ((t id : List ℕ) → Does (M.tick (now (out .entry))) (whole self t id) (replySays (r .running) 0 (tickCount (r .answer)) (some (tickSays (r .answer)))) (now (out .exit)) (whole (r .engine) t id)) × Bare (r .running) 0 0 (λ k. r .answer ≡ NotTicked k) ⌝ }
     {
         if out.len() < OUTPUT_ROOM {
             return self.no_heartbeat(9);

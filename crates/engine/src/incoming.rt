@@ -7,6 +7,7 @@ use crate::Running;
 use crate::error::incoming_error;
 use crate::error::on_error;
 use crate::error::outgoing_error;
+use crate::room::UNCOVERED;
 use crate::room::advanced;
 use crate::room::lacks_room;
 use crate::sending::frame_size;
@@ -22,7 +23,8 @@ use frame_decoder::Frames;
 use octets::Written;
 use performatives::Performative;
 ghost use mathlib.Core.Path.{_≡_};
-ghost use Prim.Native.Nat.{_≤_};
+ghost use mathlib.Core.List.{List};
+ghost use Prim.Native.Nat.{ℕ, _≤_};
 ghost use lib.ListN.{length};
 ghost use mathlib.Core.Option.{some};
 ghost use Rattle.endpoint.specs.declared.FrameAnswer.the-variants.{Refused as NoFrame};
@@ -30,12 +32,12 @@ ghost use Rattle.connection_state.specs.Answers.{stateSays};
 ghost use Rattle.connection.specs.View as View;
 ghost use Rattle.frame_decoder.specs.Frame.{readFrame};
 ghost use Rattle.frame_decoder.specs.Answers.{framesSay, refusalIn};
-ghost use Rattle.engine.specs.Reading.{Answered, Took, Taken, answersClose};
+ghost use Rattle.engine.specs.Reading.{Answered, Took, Taken, answersClose, lacksBytes};
 ghost use Rattle.endpoint.specs.Answers.{answerSays};
 ghost use Rattle.engine_model.specs.Engine.{incoming, isClose};
 ghost use Rattle.engine.specs.declared.Running.the-variants.{Refused as NotRun};
-ghost use Rattle.engine.specs.Answers.{replySays, Bare};
-ghost use Rattle.engine.specs.Promises.{Does, consumedFor, lacksBytes, LeadsTo};
+ghost use Rattle.engine.specs.Answers.{whole, connectionIn, replySays, Bare};
+ghost use Rattle.engine.specs.Promises.{DoesIn, consumedFor, LeadsTo, landedIn};
 
 // Whether a frame is a Close.
 fn is_close(s: &[u8], limit: u32, highest: u16) -> bool
@@ -74,14 +76,21 @@ fn consumed_by(answer: FrameAnswer, size: usize) -> usize
     size
 }
 
-// Whether bytes of the frame are missing.
-fn is_missing(answer: FrameAnswer) -> bool
-    ensures { λ r. ⌜ r ≡ lacksBytes (answerSays answer) ⌝ }
+// Whether bytes of the frame are missing, which is judged before anything is done.
+fn lacks_bytes(s: &[u8], limit: u32) -> bool
+    ensures { λ r. ⌜ r ≡ lacksBytes limit (now (s .entry)) ⌝ }
 {
-    let FrameAnswer::Refused(k) = answer else {
+    if s.len() < 4 {
+        return true;
+    }
+    let size = frame_size(s);
+    if size < 8 {
         return false;
-    };
-    k == 1
+    }
+    if (limit as usize) < size {
+        return false;
+    }
+    s.len() < size
 }
 
 // The number of a refusal; 0 where there is none.
@@ -103,7 +112,7 @@ fn read_to(
     out: &mut [u8],
 ) -> Landed
     requires { ⌜ written ≤ length (now out) ⌝ }
-    ensures { λ r. ⌜ LeadsTo (stateSays reached) (answerSays answer) connection written (now (out .entry)) (now (out .exit)) r ⌝ }
+    ensures { λ r. ⌜ ((t id : List ℕ) → LeadsTo (stateSays reached) (answerSays answer) (View.whole connection t id) written (now (out .entry)) (now (out .exit)) (landedIn r t id)) ⌝ }
 {
     if let FrameAnswer::Refused(k) = answer {
         let error = incoming_error(connection.role(), k);
@@ -119,15 +128,16 @@ fn read_to(
 // The peer's Close was read, which is answered: the waiting frames, and then a Close.
 fn answer_close(
     connection: Connection,
+    tables: &mut [u8],
     answer: FrameAnswer,
     waiting: &[u8],
     count: usize,
     out: &mut [u8],
 ) -> Landed
-    ensures { λ r. ⌜ Answered (answerSays answer) connection count (now (waiting .entry)) (now (out .entry)) (now (out .exit)) r ⌝ }
+    ensures { λ r. ⌜ ((id : List ℕ) → Answered (answerSays answer) (View.whole connection (now (tables .entry)) id) count (now (waiting .entry)) (now (out .entry)) (now (out .exit)) (landedIn r (now (tables .exit)) id)) ⌝ }
 {
     let reached = connection.state();
-    let waited = send_waiting(connection, waiting, count, out);
+    let waited = send_waiting(connection, tables, waiting, count, out);
     let last = waited.answer;
     let written = waited.written;
     let sender = waited.connection;
@@ -180,13 +190,12 @@ impl ConnectionEngine {
 
     // Whether a frame is a Close that left this state behind, so that it is answered.
     fn is_answered(self, s: &[u8], state: ConnectionState) -> bool
-        ensures { λ r. ⌜ r ≡ answersClose (View.viewOf (self .connection) .readingLimit) (View.settingsOf (self .connection) .channelMax) (now (s .entry)) (stateSays state) ⌝ }
+        ensures { λ r. ⌜ ((t id : List ℕ) → r ≡ answersClose (View.viewOf (connectionIn (whole self t id)) .readingLimit) (View.settingsOf (connectionIn (whole self t id)) .channelMax) (now (s .entry)) (stateSays state)) ⌝ }
     {
         let connection = self.connection;
         match state {
             ConnectionState::CloseReceived => {
-                let highest = connection.channel_max() as u16;
-                is_close(s, connection.reading_limit(), highest)
+                is_close(s, connection.reading_limit(), connection.channel_max())
             }
             _ => false,
         }
@@ -195,6 +204,7 @@ impl ConnectionEngine {
     // Where a frame leads that was read and answered so, and left the connection so.
     fn lands(
         self,
+        tables: &mut [u8],
         s: &[u8],
         answer: FrameAnswer,
         after: Connection,
@@ -202,7 +212,7 @@ impl ConnectionEngine {
         count: usize,
         out: &mut [u8],
     ) -> Landed
-        ensures { λ r. ⌜ Took self (now (s .entry)) (answerSays answer) after count (now (waiting .entry)) (now (out .entry)) (now (out .exit)) r ⌝ }
+        ensures { λ r. ⌜ ((t id : List ℕ) → Took (whole self t id) (now (s .entry)) (answerSays answer) (View.whole after (now (tables .entry)) id) count (now (waiting .entry)) (now (out .entry)) (now (out .exit)) (landedIn r (now (tables .exit)) id)) ⌝ }
     {
         let phase = self.phase;
         if let Phase::Awaiting(kept) = phase {
@@ -214,35 +224,44 @@ impl ConnectionEngine {
         }
         let state = after.state();
         if self.is_answered(s, state) {
-            return answer_close(after, answer, waiting, count, out);
+            return answer_close(after, tables, answer, waiting, count, out);
         }
         read_to(after, answer, state, 0, out)
     }
 
     // Takes the frame that the bytes start with. A session that the peer begins gets the spare handle. The session frames that wait are sent
     // if the frame is a Close that is to be answered.
-    pub fn on_incoming(self, s: &[u8], spare: u32, waiting: &[u8], out: &mut [u8]) -> OnIncoming
-        ensures { λ r. ⌜ Does (incoming (now (s .entry)) spare (now (waiting .entry)) (now (out .entry))) self (replySays (r .running) (r .consumed) (r .written) (some (answerSays (r .answer)))) (now (out .exit)) (r .engine) × Bare (r .running) (r .consumed) (r .written) (λ k. r .answer ≡ NoFrame k) ⌝ }
+    pub fn on_incoming(
+        self,
+        tables: &mut [u8],
+        s: &[u8],
+        spare: u32,
+        waiting: &[u8],
+        out: &mut [u8],
+    ) -> OnIncoming
+        ensures { λ r. ⌜ ((id : List ℕ) → DoesIn (incoming (now (s .entry)) spare (now (waiting .entry)) (now (out .entry))) (whole self (now (tables .entry)) id) (replySays (r .running) (r .consumed) (r .written) (some (answerSays (r .answer)))) (now (out .exit)) (whole (r .engine) (now (tables .exit)) id)) × Bare (r .running) (r .consumed) (r .written) (λ k. r .answer ≡ NoFrame k) ⌝ }
     {
         if lacks_room(out.len(), waiting.len()) {
             return self.not_taken(9);
         }
+        let connection = self.connection;
+        if !connection.is_covered(tables) {
+            return self.not_taken(UNCOVERED);
+        }
         if self.is_stopped() {
             return self.not_taken(20);
         }
-        let connection = self.connection;
-        let received = connection.receive_frame(s, spare);
-        let answer = received.answer;
-        let after = received.connection;
-        if is_missing(answer) {
+        if lacks_bytes(s, connection.reading_limit()) {
             return self.not_taken(1);
         }
-        let highest = connection.channel_max() as u16;
-        let frames = frame_decoder::session_frames(waiting, highest);
+        let frames = frame_decoder::session_frames(waiting, connection.channel_max());
         let Frames::Are(count) = frames else {
             return self.not_taken(refusal_of(frames));
         };
-        let landed = self.lands(s, answer, after, waiting, count, out);
+        let received = connection.receive_frame(tables, s, spare);
+        let answer = received.answer;
+        let after = received.connection;
+        let landed = self.lands(tables, s, answer, after, waiting, count, out);
         landed.taken(answer, consumed_by(answer, frame_size(s)))
     }
 }

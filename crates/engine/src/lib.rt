@@ -11,19 +11,20 @@ mod settling;
 
 use connection::AllocateAnswer;
 use connection::Connection;
+use connection::DeallocateAnswer;
 use connection::HeaderAnswer;
+use connection::NewConnection;
 use connection::TickAnswer;
 use endpoint::FrameAnswer;
 use frame_encoder::IdleTimeOut;
-use local_open::Checked;
 use octets::Written;
 ghost use mathlib.Core.Path.{_≡_};
 ghost use mathlib.Core.Bool.{not};
 ghost use Rattle.frame_encoder.specs.Answers.{settings};
 ghost use Rattle.connection_model.specs.Connection.{dialler, listener};
 ghost use Rattle.engine_model.specs.Engine.{isRunning, isStopped};
-ghost use Rattle.engine.specs.Answers.{phaseSays, goesOn};
-ghost use Rattle.engine.specs.Promises.{Makes};
+ghost use Rattle.engine.specs.Answers.{engineOf, phaseSays, goesOn};
+ghost use Rattle.engine.specs.Promises.{Makes, Runs};
 
 // How an engine ends.
 pub enum Outcome {
@@ -55,10 +56,10 @@ pub struct ConnectionEngine {
     connection: Connection,
 }
 
-// A new engine. Where its settings were refused, it has the smallest ones in their place.
-pub struct NewEngine {
-    pub answer: Checked,
-    pub engine: ConnectionEngine,
+// A new engine, or the refusal of its settings or tables.
+pub enum NewEngine {
+    Made(ConnectionEngine),
+    Refused(u8),
 }
 
 pub struct OpeningSent {
@@ -75,12 +76,6 @@ pub struct OnAllocate {
     pub running: Running,
     pub answer: AllocateAnswer,
     pub engine: ConnectionEngine,
-}
-
-// The handle of a channel that was given back, or the refusal.
-pub enum DeallocateAnswer {
-    Freed(u32),
-    Refused(u8),
 }
 
 pub struct OnDeallocate {
@@ -133,6 +128,22 @@ struct Trailed {
     connection: Connection,
 }
 
+// An engine that runs, with a connection that was made.
+fn running_with(made: NewConnection) -> NewEngine
+    ensures { λ r. ⌜ Runs made r ⌝ }
+{
+    match made {
+        NewConnection::Refused(k) => NewEngine::Refused(k),
+        NewConnection::Made(connection) => {
+            let engine = ConnectionEngine {
+                phase: Phase::Running,
+                connection,
+            };
+            NewEngine::Made(engine)
+        }
+    }
+}
+
 impl ConnectionEngine {
     // The engine of the one that dials
     pub fn dialler(
@@ -140,19 +151,18 @@ impl ConnectionEngine {
         max_frame_size: u32,
         channel_max: u16,
         idle_time_out: IdleTimeOut,
+        tables: &mut [u8],
     ) -> NewEngine
-        ensures { λ r. ⌜ Makes dialler (settings (now («container_id» .entry)) «max_frame_size» «channel_max» «idle_time_out») (r .answer) (r .engine) ⌝ }
+        ensures { λ r. ⌜ Makes dialler (settings (now («container_id» .entry)) «max_frame_size» «channel_max» «idle_time_out») (now (tables .entry)) r (now (tables .exit)) ⌝ }
     {
-        let made = Connection::dialler(container_id, max_frame_size, channel_max, idle_time_out);
-        let answer = made.answer;
-        let connection = made.connection;
-        NewEngine {
-            answer,
-            engine: ConnectionEngine {
-                phase: Phase::Running,
-                connection,
-            },
-        }
+        let made = Connection::dialler(
+            container_id,
+            max_frame_size,
+            channel_max,
+            idle_time_out,
+            tables,
+        );
+        running_with(made)
     }
 
     // The engine of the one that listens
@@ -161,19 +171,18 @@ impl ConnectionEngine {
         max_frame_size: u32,
         channel_max: u16,
         idle_time_out: IdleTimeOut,
+        tables: &mut [u8],
     ) -> NewEngine
-        ensures { λ r. ⌜ Makes listener (settings (now («container_id» .entry)) «max_frame_size» «channel_max» «idle_time_out») (r .answer) (r .engine) ⌝ }
+        ensures { λ r. ⌜ Makes listener (settings (now («container_id» .entry)) «max_frame_size» «channel_max» «idle_time_out») (now (tables .entry)) r (now (tables .exit)) ⌝ }
     {
-        let made = Connection::listener(container_id, max_frame_size, channel_max, idle_time_out);
-        let answer = made.answer;
-        let connection = made.connection;
-        NewEngine {
-            answer,
-            engine: ConnectionEngine {
-                phase: Phase::Running,
-                connection,
-            },
-        }
+        let made = Connection::listener(
+            container_id,
+            max_frame_size,
+            channel_max,
+            idle_time_out,
+            tables,
+        );
+        running_with(made)
     }
 
     // The connection inside, to be read
@@ -191,7 +200,7 @@ impl ConnectionEngine {
 
     // An engine in this phase, with this connection. It is as sound as its connection.
     pub fn resumed(phase: Phase, connection: Connection) -> ConnectionEngine
-        ensures { λ r. ⌜ r ≡ record { phase = phase; connection = connection } ⌝ }
+        ensures { λ r. ⌜ r ≡ engineOf phase connection ⌝ }
     {
         ConnectionEngine { phase, connection }
     }

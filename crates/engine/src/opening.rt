@@ -6,12 +6,13 @@ use crate::room::OUTPUT_ROOM;
 use connection::HeaderAnswer;
 use octets::Written;
 ghost use mathlib.Core.Path.{_≡_};
-ghost use mathlib.Core.List.{[]};
+ghost use mathlib.Core.List.{List, []};
+ghost use Prim.Native.Nat.{ℕ};
 ghost use Rattle.octets.specs.declared.Written.the-variants.{Refused as NotWritten};
 ghost use Rattle.connection.specs.View.{headerSays};
 ghost use Rattle.endpoint.specs.Answers.{sentSays};
 ghost use Rattle.engine_model.specs.Engine.{sendHeader, receiveHeader, sendOpen};
-ghost use Rattle.engine.specs.Answers.{openingSays, sentCount};
+ghost use Rattle.engine.specs.Answers.{whole, openingSays, sentCount};
 ghost use Rattle.engine.specs.Promises.{Does};
 
 impl ConnectionEngine {
@@ -26,7 +27,7 @@ impl ConnectionEngine {
 
     // Writes the protocol header.
     pub fn send_header(self, out: &mut [u8]) -> OpeningSent
-        ensures { λ r. ⌜ Does (sendHeader (now (out .entry))) self (openingSays 0 (sentCount (r .answer)) (sentSays (r .answer))) (now (out .exit)) (r .engine) ⌝ }
+        ensures { λ r. ⌜ ((t id : List ℕ) → Does (sendHeader (now (out .entry))) (whole self t id) (openingSays 0 (sentCount (r .answer)) (sentSays (r .answer))) (now (out .exit)) (whole (r .engine) t id)) ⌝ }
     {
         if out.len() < OUTPUT_ROOM {
             return self.not_opening(9);
@@ -48,9 +49,9 @@ impl ConnectionEngine {
         }
     }
 
-    // Writes the Open.
-    pub fn send_open(self, out: &mut [u8]) -> OpeningSent
-        ensures { λ r. ⌜ Does (sendOpen (now (out .entry))) self (openingSays 0 (sentCount (r .answer)) (sentSays (r .answer))) (now (out .exit)) (r .engine) ⌝ }
+    // Writes the Open, with the container-id that is lent: the one of its settings, or else it may be refused with 8.
+    pub fn send_open(self, container_id: &[u8], out: &mut [u8]) -> OpeningSent
+        ensures { λ r. ⌜ ((t : List ℕ) → Does (sendOpen (now (out .entry))) (whole self t (now («container_id» .entry))) (openingSays 0 (sentCount (r .answer)) (sentSays (r .answer))) (now (out .exit)) (whole (r .engine) t (now («container_id» .entry)))) ⌝ }
     {
         if out.len() < OUTPUT_ROOM {
             return self.not_opening(9);
@@ -60,7 +61,7 @@ impl ConnectionEngine {
         }
         let phase = self.phase;
         let connection = self.connection;
-        let sent = connection.send_open(out);
+        let sent = connection.send_open(container_id, out);
         let answer = sent.answer;
         let after = sent.connection;
         OpeningSent {
@@ -74,7 +75,7 @@ impl ConnectionEngine {
 
     // Takes the peer's protocol header.
     pub fn receive_header(self, s: &[u8]) -> OpeningReceived
-        ensures { λ r. ⌜ Does (receiveHeader (now (s .entry))) self (openingSays 8 0 (headerSays (r .answer))) [] (r .engine) ⌝ }
+        ensures { λ r. ⌜ ((t id : List ℕ) → Does (receiveHeader (now (s .entry))) (whole self t id) (openingSays 8 0 (headerSays (r .answer))) [] (whole (r .engine) t id)) ⌝ }
     {
         if self.is_ending() {
             return OpeningReceived {

@@ -7,23 +7,26 @@ use crate::Trailed;
 use crate::error::on_error;
 use crate::error::outgoing_error;
 use crate::room::OUTPUT_ROOM;
+use crate::room::UNCOVERED;
 use crate::room::advanced;
 use crate::settling::settle;
 use connection::Connection;
 use connection::Sent;
 use octets::Written;
 ghost use mathlib.Core.Path.{_≡_};
-ghost use Prim.Native.Nat.{_≤_};
+ghost use mathlib.Core.List.{List};
+ghost use Prim.Native.Nat.{ℕ, _≤_};
 ghost use lib.ListN.{length};
 ghost use mathlib.Core.Option.{some};
 ghost use Rattle.octets.specs.declared.Written.the-variants.{Refused as NotWritten};
 ghost use Rattle.frame_decoder.specs.Frame.{sizeOf};
-ghost use Rattle.engine.specs.Sending.{Drains, GoesOut, outgoingFrom};
+ghost use Rattle.connection.specs.View as View;
+ghost use Rattle.engine.specs.Sending.{Drains, GoesOut, outgoingFrom, trailedIn};
 ghost use Rattle.endpoint.specs.Answers.{sentSays};
 ghost use Rattle.engine_model.specs.Engine.{outgoing};
 ghost use Rattle.engine.specs.declared.Running.the-variants.{Refused as NotRun};
-ghost use Rattle.engine.specs.Answers.{replySays, Bare};
-ghost use Rattle.engine.specs.Promises.{Does};
+ghost use Rattle.engine.specs.Answers.{whole, replySays, Bare};
+ghost use Rattle.engine.specs.Promises.{DoesIn};
 
 // How many bytes the frame has that the bytes start with.
 pub(crate) fn frame_size(s: &[u8]) -> usize
@@ -38,11 +41,12 @@ pub(crate) fn frame_size(s: &[u8]) -> usize
 // Sends the session frames that stand one after the other in the slice, up to the first that is refused.
 pub(crate) fn send_waiting(
     connection: Connection,
+    tables: &mut [u8],
     waiting: &[u8],
     count: usize,
     out: &mut [u8],
 ) -> Trailed
-    ensures { λ r. ⌜ Drains connection count (now (waiting .entry)) (now (out .entry)) (now (out .exit)) r ⌝ }
+    ensures { λ r. ⌜ ((id : List ℕ) → Drains (View.whole connection (now (tables .entry)) id) count (now (waiting .entry)) (now (out .entry)) (now (out .exit)) (trailedIn r (now (tables .exit)) id)) ⌝ }
 {
     let mut sender = connection;
     let mut at: usize = 0;
@@ -51,7 +55,7 @@ pub(crate) fn send_waiting(
     let mut last: usize = 0;
     while 0 < left {
         let size = frame_size(&waiting[at..]);
-        let sent = sender.send_session_frame(&waiting[at..], &mut out[written..]);
+        let sent = sender.send_session_frame(tables, &waiting[at..], &mut out[written..]);
         let answer = sent.answer;
         let reached = sent.connection;
         let Written::Bytes(n) = answer else {
@@ -92,7 +96,7 @@ fn landed_out(landed: Landed, k: u8) -> OnOutgoing
 // The last of what goes out was sent, behind so many bytes: the engine goes on, or what was refused is an error.
 pub(crate) fn gone_out(sent: Sent, written: usize, out: &mut [u8]) -> OnOutgoing
     requires { ⌜ written ≤ length (now out) ⌝ }
-    ensures { λ r. ⌜ GoesOut sent written (now (out .entry)) (now (out .exit)) r ⌝ }
+    ensures { λ r. ⌜ ((t id : List ℕ) → GoesOut (sent .answer) (View.whole (sent .connection) t id) written (now (out .entry)) (now (out .exit)) r (whole (r .engine) t id)) ⌝ }
 {
     let answer = sent.answer;
     let connection = sent.connection;
@@ -126,17 +130,25 @@ impl ConnectionEngine {
     }
 
     // Sends a session's frame, lent whole. Refusals from 20 on are the state's, and take the error path.
-    pub fn on_outgoing_session_frame(self, frame: &[u8], out: &mut [u8]) -> OnOutgoing
-        ensures { λ r. ⌜ Does (outgoing (now (frame .entry)) (now (out .entry))) self (replySays (r .running) 0 (r .written) (some (sentSays (r .answer)))) (now (out .exit)) (r .engine) × Bare (r .running) 0 (r .written) (λ k. r .answer ≡ NotWritten k) ⌝ }
+    pub fn on_outgoing_session_frame(
+        self,
+        tables: &mut [u8],
+        frame: &[u8],
+        out: &mut [u8],
+    ) -> OnOutgoing
+        ensures { λ r. ⌜ ((id : List ℕ) → DoesIn (outgoing (now (frame .entry)) (now (out .entry))) (whole self (now (tables .entry)) id) (replySays (r .running) 0 (r .written) (some (sentSays (r .answer)))) (now (out .exit)) (whole (r .engine) (now (tables .exit)) id)) × Bare (r .running) 0 (r .written) (λ k. r .answer ≡ NotWritten k) ⌝ }
     {
         if out.len() < OUTPUT_ROOM {
             return self.not_outgoing(9);
         }
+        let connection = self.connection;
+        if !connection.is_covered(tables) {
+            return self.not_outgoing(UNCOVERED);
+        }
         if self.is_ending() {
             return self.not_outgoing(20);
         }
-        let connection = self.connection;
-        let sent = connection.send_session_frame(frame, out);
+        let sent = connection.send_session_frame(tables, frame, out);
         let answer = sent.answer;
         let after = sent.connection;
         match answer {

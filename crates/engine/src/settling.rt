@@ -10,7 +10,6 @@ use endpoint::FrameAnswer;
 use endpoint::Role;
 ghost use mathlib.Core.Path.{_≡_};
 ghost use Rattle.connection_state.specs.Answers.{stateSays};
-ghost use Rattle.connection.specs.View as View;
 ghost use Rattle.endpoint.specs.Answers.{answerSays, roleSays};
 ghost use Rattle.engine_model.specs.Engine.{phaseAnswered, closedBy, phaseRead};
 ghost use Rattle.engine.specs.Answers.{phaseSays, outcomeSays};
@@ -51,7 +50,7 @@ pub(crate) fn phase_read(
 
 // The phase after a frame was read while the peer's Close is awaited.
 pub(crate) fn phase_awaited(kept: Outcome, connection: Connection, answer: FrameAnswer) -> Phase
-    ensures { λ r. ⌜ phaseSays r ≡ awaitedBy (View.roleOf connection) (outcomeSays kept) (View.viewOf connection .state) (answerSays answer) ⌝ }
+    ensures { λ r. ⌜ phaseSays r ≡ awaitedBy (roleSays (connection .endpoint .role)) (outcomeSays kept) (stateSays (connection .«local_state»)) (answerSays answer) ⌝ }
 {
     if let FrameAnswer::Refused(k) = answer {
         return Phase::Stopped(outcome_of(incoming_error(connection.role(), k)));

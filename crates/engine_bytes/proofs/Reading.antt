@@ -1,173 +1,126 @@
--- What each step of the functions that read and write an engine shows, with the facts as they come.
+-- Numbers at places of bytes, as the readers find them, and what they stand for.
 -- Assumes nothing.
-use mathlib.Core.Path.{_≡_, refl, sym, _∙_, ap, ap₂}
+use mathlib.Core.Path.{_≡_, refl, sym, _∙_, ap, subst}
 use mathlib.Core.Bool.{Bool, true, false, cond}
-use mathlib.Core.List.{List, [], _∷_, _++_}
-use Prim.Native.Nat.{ℕ, _-_, _≤_, _<_}
+use mathlib.Core.List.{List}
+use mathlib.Core.Option.{none, some}
+use Prim.Native.Nat.{ℕ, _+_, _-_, _*_, _^_, _≤_, _<_}
 use native.Mathlib.Omega.{arith}
-use lib.ListN.{length, take, drop, getD, length-drop, length-append, take-append-drop}
-use lib.Seq.{take-all, drop-cons, length-take-le}
-use Rattle.octets.specs.Octets.{bigEndianFrom, bigEndian, bytesOf, put}
-use Rattle.octets.proofs.Laws.{put-over, put-more}
-use Rattle.layout.proofs.Laws.{Octets, number-bytes}
-use Rattle.channels.proofs.Lists.{octets-take}
+use native.Mathlib.Decide.{decLe}
+use lib.Dec.{eqb}
+use lib.ListN.{length, take, drop, getD, length-drop, length-take}
+use lib.Seq.{length-take-le, take-all, drop-cons}
+use borrow.Author.Tests.{ne-eqb}
+use Rattle.octets.specs.Octets.{bigEndian, bigEndianFrom}
+use Rattle.octets.specs.Verdict.{refuse, accept, require}
+use Rattle.octets.proofs.Laws.{require-on, require-off, then-accept, then-refuse}
+use Rattle.layout.specs.Layout.{held}
+use Rattle.frame_encoder.specs.declared.IdleTimeOut.{IdleTimeOut}
 use Rattle.frame_encoder.specs.Frames.{Settings}
-use Rattle.local_open.specs.declared.Checked.{Checked}
-use Rattle.local_open.specs.Settings.{allowed, orSmallest, smallest}
-use Rattle.connection_model.specs.Connection.{Role, dialler}
-use Rattle.connection.specs.declared.Connection.{Connection}
-use Rattle.connection.specs.declared.ConnectionRead.{ConnectionRead}
-use Rattle.connection.specs.Bytes.{connectionBytes}
-use Rattle.connection.proofs.Bytes.{length-sound}
-use Rattle.connection.specs.Promises.{ReadsConnection, WritesConnection}
-use Rattle.engine_model.specs.Engine as M
-use Rattle.engine_model.specs.Engine.{Engine}
-use Rattle.engine.specs.declared.ConnectionEngine.{ConnectionEngine}
-use Rattle.engine.specs.declared.Phase.{Phase}
-use Rattle.engine.specs.Answers.{phaseSays, roleOf, settingsOf, viewOf, Sound}
-use Rattle.engine.specs.Promises.{Makes}
-use Rattle.engine_bytes.specs.declared.EngineRead.{EngineRead}
-use Rattle.engine_bytes.specs.declared.PhaseRead.{PhaseRead}
-use Rattle.engine_bytes.specs.Bytes.{phaseBytes, version, engineBytes, StandFor}
-use Rattle.engine_bytes.specs.Promises.{ReadsPhase, ReadsEngine, Unread, WritesEngine}
-use Rattle.engine_bytes.proofs.Phases.{apart, length-phase}
-use Rattle.engine_bytes.proofs.Laws.{version-first, engine-length, stand-length}
+use Rattle.frame_encoder.specs.Answers.{settings, idleSaid}
+use Rattle.frame_encoder.proofs.Laws.{settings-within}
+use Rattle.channels.specs.declared.OutgoingChannels.{OutgoingChannels}
+use Rattle.channels.specs.declared.Resumed.{Resumed}
+use Rattle.channels.specs.Channels.{counts, countsOk, unopened, resumedAs}
+use Rattle.local_open.specs.declared.NewOpen.{NewOpen}
+use Rattle.local_open.specs.Settings.{allowed, checked, newSays}
+use Rattle.engine_bytes.specs.Bytes.{at, idAt, orBroken, flagWith, settingsAt, numbersAt}
+use Rattle.engine_bytes.specs.Promises.{countsSays}
 
--- ---- unread
+-- the number that was read of w bytes from a place on
+module _ (s : List ℕ) (i w x : ℕ) (few : w ≤ 8) (fits : i + w ≤ length s)
+    (is : (x ≡ bigEndian (take 8 (take (i + w - i) (drop i s)))) × (x < 2 ^ (8 * length (take 8 (take (i + w - i) (drop i s)))))) where
+  span : i + w - i ≡ w
+  span = omega arith
 
--- a new dialler with the smallest settings
-pub new-unread : (S : Settings) (a : Checked) (e : ConnectionEngine) → S ≡ smallest → Makes dialler S a e → Unread (record { fine = false; engine = e })
-new-unread S a e q m = record {
-  unread-not = refl;
-  unread-sound = m .made .made-sound;
-  unread-role = m .made .made-role;
-  unread-settings = m .made .made-settings ∙ ap orSmallest q ∙ either (allowed smallest);
-  unread-fresh = λ z. record { phase = phaseSays (m .runs z); connection = m .made .made-fresh z };
-}
-  where
-    either : (b : Bool) → cond b smallest smallest ≡ smallest
-    either true = refl
-    either false = refl
+  long : length (take w (drop i s)) ≡ w
+  long = length-take-le w (drop i s) (omega (arith, length-drop i s))
 
--- ---- from_bytes
+  all : take 8 (take (i + w - i) (drop i s)) ≡ take w (drop i s)
+  all = ap (λ (n : ℕ). take 8 (take n (drop i s))) span ∙ take-all 8 (take w (drop i s)) (omega (arith, long))
 
-unread : (s : List ℕ) (r : EngineRead) → Unread r → ((role : Role) (S : Settings) (e : Engine) → StandFor s role S e → ⊥) → ReadsEngine s r
-unread s r u h = record {
-  yes = λ e. apart (let f = u .unread-not in cc);
-  no = λ e. h;
-  sound = u .unread-sound;
-  new-role = λ e. u .unread-role;
-  new-settings = λ e. u .unread-settings;
-  new-fresh = λ e. u .unread-fresh;
-}
+  pub number-low : x < 2 ^ (8 * w)
+  number-low = subst (λ (n : ℕ). x < 2 ^ (8 * n)) (ap length all ∙ long) (is .1)
 
-pub engine-short : (s : List ℕ) (r : EngineRead) → (length s ≡ 3102 → ⊥) → Unread r → ReadsEngine s r
-engine-short s r h u = unread s r u (λ role S e f. h (stand-length f))
+  pub number-is : x ≡ at i w s
+  number-is = is .0 ∙ ap bigEndian all
 
--- the first four bytes, as a part of them all
-pub four-long : (s : List ℕ) → length s ≡ 3102 → 4 ≡ length (take 4 s)
-four-long s l = sym (length-take-le 4 s (omega arith))
+-- ---- bytes, and what they stand for
 
--- the version as a number
-version-is : bigEndian (take 8 version) ≡ 0x48535031
+pub byte-at : (s : List ℕ) (i : ℕ) → i < length s → getD s i 0 ≡ at i 1 s
 unfolding bigEndian bigEndianFrom
-version-is = refl
+byte-at s i low = omega arith ∙ sym (ap (λ l. bigEndian (take 1 l)) (drop-cons s i 0 low))
 
-version-bytes : bytesOf 4 0x48535031 ≡ version
-unfolding bytesOf
-version-bytes = refl
+-- a flag is 0 or 1
+flag-beyond : (n : ℕ) → 1 < n → flagWith n ≡ none
+flag-beyond n h = rw (ne-eqb n 0 (λ e. absurd (omega arith)), ne-eqb n 1 (λ e. absurd (omega arith)))
 
--- the phase's two bytes, and the connection's after them
-two-first : (role : Role) (S : Settings) (e : Engine) → getD (engineBytes role S e) 4 0 ∷ getD (engineBytes role S e) 5 0 ∷ [] ≡ phaseBytes (e .phase)
-unfolding engineBytes
-two-first role S e = two (e .phase)
-  where
-    two : (p : M.Phase) → getD (phaseBytes p ++ connectionBytes role S (e .connection)) 0 0 ∷ getD (phaseBytes p ++ connectionBytes role S (e .connection)) 1 0 ∷ [] ≡ phaseBytes p
-    two M.running = refl
-    two (M.awaiting o) = refl
-    two (M.stopped o) = refl
+flag-within : (n : ℕ) → n ≤ 1 → flagWith n ≡ some (eqb n 1)
+flag-within n h = elim (decLe n 0) [
+  | yes l ↦ let e : n ≡ 0 = omega arith in rw e
+  | no l ↦ let e : n ≡ 1 = omega arith in rw e
+]
 
-connection-rest : (role : Role) (S : Settings) (e : Engine) → drop 6 (engineBytes role S e) ≡ connectionBytes role S (e .connection)
-unfolding engineBytes
-connection-rest role S e = rest (e .phase)
-  where
-    rest : (p : M.Phase) → drop 2 (phaseBytes p ++ connectionBytes role S (e .connection)) ≡ connectionBytes role S (e .connection)
-    rest M.running = refl
-    rest (M.awaiting o) = refl
-    rest (M.stopped o) = refl
+-- ---- read_counts
 
-module _ (s : List ℕ) where
-  pub engine-other : (r : EngineRead) (n : ℕ) → n ≡ bigEndian (take 8 (take 4 s)) → (n ≡ 0x48535031 → ⊥) → Unread r → ReadsEngine s r
-  engine-other r n e h u =
-      unread s r u (λ role S x f. h (e ∙ ap (λ l. bigEndian (take 8 l)) (ap (take 4) (f .are) ∙ version-first role S x) ∙ version-is))
+module _ (s : List ℕ) (long : 300 ≤ length s) where
+  agreed-at : getD s 19 0 ≡ at 19 1 s
+  agreed-at = byte-at s 19 (omega arith)
 
-  pub engine-phaseless : (r : EngineRead) (p : PhaseRead) → ReadsPhase (getD s 4 0) (getD s 5 0) p → p .fine ≡ false → Unread r → ReadsEngine s r
-  engine-phaseless r p reads e u =
-      unread s r u (λ role S x f. reads .no e (x .phase) (ap (λ l. getD l 4 0 ∷ getD l 5 0 ∷ []) (f .are) ∙ two-first role S x))
+  pub counts-not : (r : Resumed) → r .fine ≡ false → 1 < getD s 19 0 → countsSays r ≡ numbersAt s
+  unfolding numbersAt
+  counts-not r f h = ap (λ b. cond b (accept (r .channels)) (refuse 8)) f ∙ sym (then-refuse _ _ 8 (ap orBroken (ap flagWith (sym agreed-at) ∙ flag-beyond _ h)))
 
-  module _ (l : length s ≡ 3102) where
-    -- the bytes after the phase, as a part of them all
-    rest-is : take (length s - 6) (drop 6 s) ≡ drop 6 s
-    rest-is = take-all (length s - 6) (drop 6 s) (omega (arith, length-drop 6 s))
-
-    pub engine-unfit : (r : EngineRead) (c : ConnectionRead) → ReadsConnection (take (length s - 6) (drop 6 s)) c → c .fine ≡ false → Unread r → ReadsEngine s r
-    engine-unfit r c reads e u =
-        unread s r u (λ role S x f. reads .no e role S (x .connection) (f .storable) (rest-is ∙ ap (drop 6) (f .are) ∙ connection-rest role S x))
-
-    four-are : Octets s → (n : ℕ) → n ≡ bigEndian (take 8 (take 4 s)) → n ≡ 0x48535031 → take 4 s ≡ version
-    four-are octets n e v =
-        let k : length (take 4 s) ≡ 4 = length-take-le 4 s (omega arith) in
-        let q : bigEndian (take 4 s) ≡ 0x48535031 = ap bigEndian (sym (take-all 8 (take 4 s) (omega arith))) ∙ sym e ∙ v in
-        sym (number-bytes (take 4 s) (octets-take 4 s octets)) ∙ ap₂ bytesOf k q ∙ version-bytes
-
-    two-then : drop 4 s ≡ getD s 4 0 ∷ getD s 5 0 ∷ drop 6 s
-    two-then = drop-cons s 4 0 (omega arith) ∙ ap (λ t. getD s 4 0 ∷ t) (drop-cons s 5 0 (omega arith))
-
-    pub engine-read :
-        Octets s → (n : ℕ) → n ≡ bigEndian (take 8 (take 4 s)) → n ≡ 0x48535031 → (p : PhaseRead) → ReadsPhase (getD s 4 0) (getD s 5 0) p → p .fine ≡ true
-        → (c : ConnectionRead) → ReadsConnection (take (length s - 6) (drop 6 s)) c → c .fine ≡ true
-        → (e : ConnectionEngine) → e ≡ record { phase = p .phase; connection = c .connection } → ReadsEngine s (record { fine = true; engine = e })
-    unfolding engineBytes
-    engine-read octets n en v p phase fp c reads fc e q = rw q made
-      where
-        x : ConnectionEngine
-        x = record { phase = p .phase; connection = c .connection }
-
-        are : s ≡ engineBytes (roleOf x) (settingsOf x) (viewOf x)
-        are =
-            sym (take-append-drop 4 s)
-            ∙ ap₂ (λ a b. a ++ b) (four-are octets n en v) (two-then ∙ ap₂ (λ a b. a ++ b) (phase .yes fp) (sym rest-is ∙ reads .yes fc))
-
-        made : ReadsEngine s (record { fine = true; engine = x })
-        made = record {
-          yes = λ f. record { are = are; storable = reads .storable fc };
-          no = λ f. apart (cc);
-          sound = reads .read-sound;
-          new-role = λ f. apart (cc);
-          new-settings = λ f. apart (cc);
-          new-fresh = λ f. apart (cc);
-        }
-
--- ---- write
-
-module _ (e : ConnectionEngine) (d : List ℕ) where
-  length-whole : Sound e → length (engineBytes (roleOf e) (settingsOf e) (viewOf e)) ≡ 3102
-  length-whole z = engine-length (roleOf e) (settingsOf e) (viewOf e) (length-sound (e .connection) z)
-
-  pub engine-over : length d < 3102 → WritesEngine e d d
-  engine-over h = record { lays = λ z. put-over d 0 (engineBytes (roleOf e) (settingsOf e) (viewOf e)) 3102 (sym (length-whole z)) (omega arith) (omega arith) }
-
-  pub engine-laid :
-      3102 ≤ length d → (o : List ℕ) → o ≡ put d 0 version → (p : Phase) → p ≡ e .phase → (o′ : List ℕ) → o′ ≡ put o 4 (phaseBytes (phaseSays p))
-      → (c : Connection) → c ≡ e .connection → (o″ : List ℕ) → WritesConnection c 6 o′ o″ → WritesEngine e d o″
-  unfolding engineBytes
-  engine-laid room o q p ep o′ q′ c ec o″ w = record { lays = laid }
+  counts-by : (k : OutgoingChannels) (r : Resumed) → r ≡ resumedAs k → countsSays r ≡ require 8 (countsOk k) (λ _. accept k)
+  counts-by k r p = ap countsSays p ∙ by (countsOk k) refl
     where
-      laid : Sound e → o″ ≡ put d 0 (engineBytes (roleOf e) (settingsOf e) (viewOf e))
-      laid z =
-          let B = connectionBytes (roleOf e) (settingsOf e) (viewOf e .connection) in
-          let P = phaseBytes (phaseSays (e .phase)) in
-          let l : length B ≡ 3096 = length-sound (e .connection) z in
-          let k : length P ≡ 2 = length-phase (phaseSays (e .phase)) in
-          let q₁ : o′ ≡ put d 0 (version ++ P) = put-more version P d o o′ 0 4 refl (omega arith) q (q′ ∙ ap (λ x. put o 4 (phaseBytes (phaseSays x))) ep) in
-          put-more (version ++ P) B d o′ o″ 0 6 (omega (arith, length-append version P)) (omega arith) q₁ ((rw ec at w) .lays z)
+      by : (b : Bool) → countsOk k ≡ b → countsSays (resumedAs k) ≡ require 8 (countsOk k) (λ _. accept k)
+      by true e = ap (λ b. cond b (accept (cond b k unopened)) (refuse 8)) e ∙ sym (require-on 8 _ _ e)
+      by false e = ap (λ b. cond b (accept (cond b k unopened)) (refuse 8)) e ∙ sym (require-off 8 _ _ e)
+
+  pub counts-read : (highest used head freed : ℕ) (r : Resumed) → getD s 19 0 ≤ 1 → r ≡ resumedAs (counts (eqb (getD s 19 0) 1) highest used head freed)
+      → highest ≡ at 40 2 s → used ≡ at 28 4 s → head ≡ at 32 4 s → freed ≡ at 36 4 s → countsSays r ≡ numbersAt s
+  unfolding numbersAt
+  counts-read highest used head freed r h p a b c d =
+      let e : counts (eqb (getD s 19 0) 1) highest used head freed ≡ counts (eqb (getD s 19 0) 1) (at 40 2 s) (at 28 4 s) (at 32 4 s) (at 36 4 s) = λ i. counts (eqb (getD s 19 0) 1) (a i) (b i) (c i) (d i) in
+      counts-by _ r p
+      ∙ ap (λ k. require 8 (countsOk k) (λ _. accept k)) e
+      ∙ sym (then-accept _ _ _ (ap orBroken (ap flagWith (sym agreed-at) ∙ flag-within _ h)))
+
+  -- ---- read_open
+
+  there-at : getD s 5 0 ≡ at 5 1 s
+  there-at = byte-at s 5 (omega arith)
+
+  pub open-flag : 1 < getD s 5 0 → refuse 8 ≡ settingsAt s
+  unfolding settingsAt
+  open-flag h = sym (then-refuse _ _ 8 (ap orBroken (ap flagWith (sym there-at) ∙ flag-beyond _ h)))
+
+  module _ (h : getD s 5 0 ≤ 1) (n : ℕ) (n-is : n ≡ at 42 2 s) where
+    abbrev S : Settings
+    S = record { containerId = idAt s; maxFrameSize = at 8 4 s; channelMax = at 6 2 s; idleTimeOut = held (eqb (getD s 5 0) 1) (at 12 4 s) }
+
+    said-as : settingsAt s ≡ checked S
+    unfolding settingsAt
+    said-as = then-accept _ _ _ (ap orBroken (ap flagWith (sym there-at) ∙ flag-within _ h))
+
+    -- an id that is too long is beyond its limit, wherever the bytes end
+    pub open-long : 255 < n → refuse 8 ≡ settingsAt s
+    open-long over = sym (said-as ∙ require-off 8 _ _ (not-allowed (allowed S) refl))
+      where
+        not-allowed : (b : Bool) → allowed S ≡ b → allowed S ≡ false
+        not-allowed false e = e
+        not-allowed true e =
+            let w : length (idAt s) ≤ 255 = settings-within _ _ _ e .id-short in
+            absurd (omega (arith, length-take (at 42 2 s) (drop 44 s), length-drop 44 s))
+
+    pub open-read : (r : NewOpen) (id : List ℕ) (size highest millis : ℕ) (idle : IdleTimeOut) → id ≡ take (44 + n - 44) (drop 44 s)
+        → newSays id r ≡ checked (settings id size highest idle) → size ≡ at 8 4 s → highest ≡ at 6 2 s → idleSaid idle ≡ held (eqb (getD s 5 0) 1) millis → millis ≡ at 12 4 s
+        → newSays (idAt s) r ≡ settingsAt s
+    open-read r id size highest millis idle i p a b o m =
+        let c : idleSaid idle ≡ held (eqb (getD s 5 0) 1) (at 12 4 s) = o ∙ ap (held (eqb (getD s 5 0) 1)) m in
+        let k : 44 + n - 44 ≡ at 42 2 s = omega arith in
+        let j : id ≡ idAt s = i ∙ ap (λ (m : ℕ). take m (drop 44 s)) k in
+        ap (λ x. newSays x r) (sym j) ∙ p
+        ∙ (λ t. checked (record { containerId = j t; maxFrameSize = a t; channelMax = b t; idleTimeOut = c t }))
+        ∙ sym said-as

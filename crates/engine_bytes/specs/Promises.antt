@@ -1,48 +1,56 @@
--- What reading an engine from bytes and writing it promise.
+-- What reading an engine from bytes and laying it promise.
 -- Assumes nothing: these are definitions.
-use mathlib.Core.Path.{_≡_}
-use mathlib.Core.Bool.{true, false}
-use mathlib.Core.List.{List, _∷_, []}
+use mathlib.Core.Bool.{cond}
+use mathlib.Core.List.{List}
+use mathlib.Core.Option.{Option, none, some}
 use Prim.Native.Nat.{ℕ}
-use Rattle.octets.specs.Octets.{put}
-use Rattle.frame_encoder.specs.Frames.{Settings}
-use Rattle.local_open.specs.Settings.{smallest}
-use Rattle.connection_model.specs.Connection.{Role, dialler}
+use Rattle.octets.specs.Verdict.{Verdict, refuse, accept}
+use Rattle.connection_model.specs.Connection.{Role}
+use Rattle.connection_state.specs.Answers.{stateSays}
+use Rattle.channels.specs.declared.OutgoingChannels.{OutgoingChannels}
+use Rattle.channels.specs.declared.Resumed.{Resumed}
+use Rattle.local_open.specs.Settings.{openSays}
+use Rattle.endpoint.specs.Answers.{roleSays}
 use Rattle.engine_model.specs.Engine as M
 use Rattle.engine.specs.declared.ConnectionEngine.{ConnectionEngine}
-use Rattle.engine.specs.Answers.{outcomeSays, phaseSays, roleOf, settingsOf, viewOf, Sound}
-use Rattle.engine_bytes.specs.declared.OutcomeRead.{OutcomeRead}
-use Rattle.engine_bytes.specs.declared.PhaseRead.{PhaseRead}
+use Rattle.engine.specs.Answers.{outcomeSays, phaseSays}
+use Rattle.engine_bytes.specs.declared.numbers.OutcomeRead.{OutcomeRead}
+use Rattle.engine_bytes.specs.declared.numbers.OutcomeRead.the-variants as O
+use Rattle.engine_bytes.specs.declared.numbers.PhaseRead.{PhaseRead}
+use Rattle.engine_bytes.specs.declared.numbers.PhaseRead.the-variants as P
+use Rattle.engine_bytes.specs.declared.numbers.RoleRead.{RoleRead}
+use Rattle.engine_bytes.specs.declared.numbers.RoleRead.the-variants as R
 use Rattle.engine_bytes.specs.declared.EngineRead.{EngineRead}
-use Rattle.engine_bytes.specs.Bytes.{outcomeNumber, phaseBytes, engineBytes, StandFor}
+use Rattle.engine_bytes.specs.declared.EngineRead.the-variants.{Is, Broken}
+use Rattle.engine_bytes.specs.Bytes.{Fixed}
 
--- the outcome that has this number, or that none has it
-pub record ReadsOutcome (k : ℕ) (r : OutcomeRead) : Type 0 where
-  pub yes : r .fine ≡ true → k ≡ outcomeNumber (outcomeSays (r .outcome))
-  pub no : r .fine ≡ false → (o : M.Outcome) → k ≡ outcomeNumber o → ⊥
+-- what is fixed of an engine with its container-id
+abbrev pub fixedIn : ConnectionEngine → List ℕ → Fixed
+fixedIn e id = record {
+  role = roleSays (e .connection .endpoint .role);
+  settings = openSays id (e .connection .endpoint .«local_open»);
+  phase = phaseSays (e .phase);
+  state = stateSays (e .connection .«local_state»);
+  readingLimit = e .connection .endpoint .«reading_limit»;
+  writingLimit = e .connection .endpoint .«writing_limit»;
+  numbers = e .connection .endpoint .outgoing;
+}
 
--- the phase that has these two bytes, or that none has them
-pub record ReadsPhase (p o : ℕ) (r : PhaseRead) : Type 0 where
-  pub yes : r .fine ≡ true → p ∷ o ∷ [] ≡ phaseBytes (phaseSays (r .phase))
-  pub no : r .fine ≡ false → (q : M.Phase) → p ∷ o ∷ [] ≡ phaseBytes q → ⊥
+abbrev pub readSays : List ℕ → EngineRead → Verdict Fixed
+readSays id (Is e) = accept (fixedIn e id)
+readSays id Broken = refuse 8
 
--- a sound engine that has these bytes, or that there is none, and then a new dialler with the smallest settings
-pub record ReadsEngine (s : List ℕ) (r : EngineRead) : Type 0 where
-  pub yes : r .fine ≡ true → StandFor s (roleOf (r .engine)) (settingsOf (r .engine)) (viewOf (r .engine))
-  pub no : r .fine ≡ false → (role : Role) (S : Settings) (e : M.Engine) → StandFor s role S e → ⊥
-  pub sound : Sound (r .engine)
-  pub new-role : r .fine ≡ false → roleOf (r .engine) ≡ dialler
-  pub new-settings : r .fine ≡ false → settingsOf (r .engine) ≡ smallest
-  pub new-fresh : r .fine ≡ false → viewOf (r .engine) ≡ M.fresh
+abbrev pub outcomeRead : OutcomeRead → Option M.Outcome
+outcomeRead (O.Is o) = some (outcomeSays o)
+outcomeRead O.Unknown = none
 
--- what bytes give that are not those of a sound engine: a new dialler with the smallest settings
-pub record Unread (r : EngineRead) : Type 0 where
-  pub unread-not : r .fine ≡ false
-  pub unread-sound : Sound (r .engine)
-  pub unread-role : roleOf (r .engine) ≡ dialler
-  pub unread-settings : settingsOf (r .engine) ≡ smallest
-  pub unread-fresh : viewOf (r .engine) ≡ M.fresh
+abbrev pub phaseRead : PhaseRead → Option M.Phase
+phaseRead (P.Is p) = some (phaseSays p)
+phaseRead P.Unknown = none
 
--- the bytes of a sound engine are laid at the front
-pub record WritesEngine (e : ConnectionEngine) (before after : List ℕ) : Type 0 where
-  pub lays : Sound e → after ≡ put before 0 (engineBytes (roleOf e) (settingsOf e) (viewOf e))
+abbrev pub roleRead : RoleRead → Option Role
+roleRead (R.Is r) = some (roleSays r)
+roleRead R.Unknown = none
+
+abbrev pub countsSays : Resumed → Verdict OutgoingChannels
+countsSays r = cond (r .fine) (accept (r .channels)) (refuse 8)

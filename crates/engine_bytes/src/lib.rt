@@ -1,166 +1,241 @@
-// An engine from bytes and to bytes: what a C caller keeps between events.
+// An engine from bytes and to bytes: what a C caller keeps between events. The fixed part of 300 bytes is judged whole, of the tables behind it only their length.
+pub mod numbers;
+
+use channels::OutgoingChannels;
+use channels::Resumed;
+use channels::places::covers;
 use connection::Connection;
+use connection::ResumedConnection;
+use connection_state::ConnectionState;
+use connection_state::NumberedState;
+use endpoint::Role;
 use engine::ConnectionEngine;
-use engine::Outcome;
 use engine::Phase;
 use frame_encoder::IdleTimeOut;
+use local_open::LocalOpen;
+use local_open::NewOpen;
+use numbers::PhaseRead;
+use numbers::RoleRead;
+use numbers::put_phase;
+use numbers::role_number;
 use octets::copy;
 use octets::number;
+use octets::put_number;
 ghost use mathlib.Core.Path.{_≡_};
+ghost use mathlib.Core.List.{[]};
+ghost use Prim.Native.Nat.{_+_, _≤_};
+ghost use lib.ListN.{length};
 ghost use Rattle.octets.specs.Octets.{put};
-ghost use Rattle.engine.specs.Answers.{outcomeSays, phaseSays};
-ghost use Rattle.engine_bytes.specs.Bytes.{outcomeNumber, phaseBytes};
-ghost use Rattle.engine_bytes.specs.Promises.{ReadsOutcome, ReadsPhase, ReadsEngine, Unread, WritesEngine};
+ghost use Rattle.layout.specs.Layout.{held};
+ghost use Rattle.frame_encoder.specs.Answers.{idleSaid};
+ghost use Rattle.channels.specs.Numbers.{one};
+ghost use Rattle.connection_state.specs.Answers.{stateSays};
+ghost use Rattle.local_open.specs.Settings.{newSays};
+ghost use Rattle.endpoint.specs.Answers.{roleSays};
+ghost use Rattle.engine.specs.Answers.{phaseSays};
+ghost use Rattle.engine_bytes.specs.Bytes.{at, idAt, settingsAt, numbersAt, restAt, fixedAt, numberBytes, movingBytes, settingBytes, fixedBytes};
+ghost use Rattle.engine_bytes.specs.Promises.{fixedIn, readSays, countsSays};
 
-// How many bytes an engine has.
-pub const STATE_SIZE: usize = 3102;
+// How many bytes the fixed part has: the tables stand behind it.
+pub const FIXED_SIZE: usize = 300;
 
-// An engine that was read from bytes. Where `fine` is false, the bytes are not those of a sound engine, and a new dialler's stands in its place.
-pub struct EngineRead {
-    pub fine: bool,
-    pub engine: ConnectionEngine,
+// The bytes "HSP2", which name the layout.
+const VERSION: u32 = 0x48535032;
+
+// Where the container-id stands, and how long it may be.
+pub const ID: usize = 44;
+
+const ID_MAX: usize = 255;
+
+// An engine that was read, or that the bytes stand for none.
+pub enum EngineRead {
+    Is(ConnectionEngine),
+    Broken,
 }
 
-// An outcome that was read by its number. Where `fine` is false, none has it.
-struct OutcomeRead {
-    fine: bool,
-    outcome: Outcome,
-}
-
-// A phase that was read from two bytes. Where `fine` is false, no phase has them.
-struct PhaseRead {
-    fine: bool,
-    phase: Phase,
-}
-
-// The number of an outcome.
-pub fn outcome_number(outcome: Outcome) -> u8
-    ensures { λ r. ⌜ r ≡ outcomeNumber (outcomeSays outcome) ⌝ }
+// The number in two bytes from a place on.
+fn two_at(s: &[u8], i: usize) -> u16
+    requires { ⌜ i + 2 ≤ length (now s) ⌝ }
+    ensures { λ r. ⌜ r ≡ at i 2 (now (s .entry)) ⌝ }
 {
-    match outcome {
-        Outcome::Fine => 0,
-        Outcome::TransportError => 1,
-        Outcome::IllegalState => 2,
-        Outcome::NotFound => 3,
-        Outcome::NotImplemented => 4,
-        Outcome::RemoteClosed => 5,
-        Outcome::RemoteClosedWithError => 6,
+    let end = i + 2;
+    number(&s[i..end]) as u16
+}
+
+// The number in four bytes from a place on.
+fn four_at(s: &[u8], i: usize) -> u32
+    requires { ⌜ i + 4 ≤ length (now s) ⌝ }
+    ensures { λ r. ⌜ r ≡ at i 4 (now (s .entry)) ⌝ }
+{
+    let end = i + 4;
+    number(&s[i..end]) as u32
+}
+
+// An idle-time-out that is there or not.
+fn idle_of(there: bool, millis: u32) -> IdleTimeOut
+    ensures { λ r. ⌜ idleSaid r ≡ held there millis ⌝ }
+{
+    if there {
+        return IdleTimeOut::Millis(millis);
     }
+    IdleTimeOut::Never
 }
 
-// The outcome that has the number.
-fn read_outcome(k: u8) -> OutcomeRead
-    ensures { λ r. ⌜ ReadsOutcome k r ⌝ }
+// The settings of a fixed part, if they are within their limits.
+fn read_open(s: &[u8]) -> NewOpen
+    requires { ⌜ 300 ≤ length (now s) ⌝ }
+    ensures { λ r. ⌜ newSays (idAt (now (s .entry))) r ≡ settingsAt (now (s .entry)) ⌝ }
 {
-    let outcome = match k {
-        0 => Outcome::Fine,
-        1 => Outcome::TransportError,
-        2 => Outcome::IllegalState,
-        3 => Outcome::NotFound,
-        4 => Outcome::NotImplemented,
-        5 => Outcome::RemoteClosed,
-        6 => Outcome::RemoteClosedWithError,
-        _ => {
-            return OutcomeRead {
-                fine: false,
-                outcome: Outcome::Fine,
-            };
-        }
-    };
-    OutcomeRead {
-        fine: true,
-        outcome,
+    let there = s[5];
+    if 1 < there {
+        return NewOpen::Refused(8);
     }
+    let n = two_at(s, 42) as usize;
+    if ID_MAX < n {
+        return NewOpen::Refused(8);
+    }
+    let end = ID + n;
+    let idle = idle_of(there == 1, four_at(s, 12));
+    LocalOpen::new(&s[ID..end], four_at(s, 8), two_at(s, 6), idle)
 }
 
-// The phase that has the two bytes.
-fn read_phase(p: u8, o: u8) -> PhaseRead
-    ensures { λ r. ⌜ ReadsPhase p o r ⌝ }
+// The counts of a fixed part, if they are within their limits.
+fn read_counts(s: &[u8]) -> Resumed
+    requires { ⌜ 300 ≤ length (now s) ⌝ }
+    ensures { λ r. ⌜ countsSays r ≡ numbersAt (now (s .entry)) ⌝ }
 {
-    if p == 0 {
-        return PhaseRead {
-            fine: o == 0,
-            phase: Phase::Running,
+    let agreed = s[19];
+    if 1 < agreed {
+        return Resumed {
+            fine: false,
+            channels: OutgoingChannels::new(),
         };
     }
-    let read = read_outcome(o);
-    let outcome = read.outcome;
-    if p == 1 {
-        return PhaseRead {
-            fine: read.fine,
-            phase: Phase::Awaiting(outcome),
-        };
-    }
-    if p == 2 {
-        return PhaseRead {
-            fine: read.fine,
-            phase: Phase::Stopped(outcome),
-        };
-    }
-    PhaseRead {
-        fine: false,
-        phase: Phase::Running,
-    }
+    OutgoingChannels::resumed(
+        agreed == 1,
+        two_at(s, 40),
+        four_at(s, 28),
+        four_at(s, 32),
+        four_at(s, 36),
+    )
 }
 
-// Lays the two bytes of a phase into the buffer at a place, if they fit there.
-pub fn put_phase(phase: Phase, out: &mut [u8], at: usize)
-    ensures { λ _. ⌜ now (out .exit) ≡ put (now (out .entry)) at (phaseBytes (phaseSays phase)) ⌝ }
-{
-    match phase {
-        Phase::Running => copy(out, at, &[0, 0]),
-        Phase::Awaiting(o) => copy(out, at, &[1, outcome_number(o)]),
-        Phase::Stopped(o) => copy(out, at, &[2, outcome_number(o)]),
-    }
-}
-
-// What bytes give that are not those of a sound engine.
-fn unread() -> EngineRead
-    ensures { λ r. ⌜ Unread r ⌝ }
-{
-    let made = ConnectionEngine::dialler(b"", 512, 0, IdleTimeOut::Never);
-    let engine = made.engine;
-    EngineRead {
-        fine: false,
-        engine,
-    }
-}
-
-// The engine that 3,102 bytes stand for.
+// The engine that bytes stand for.
 pub fn from_bytes(s: &[u8]) -> EngineRead
-    ensures { λ r. ⌜ ReadsEngine (now (s .entry)) r ⌝ }
+    ensures { λ r. ⌜ readSays (idAt (now (s .entry))) r ≡ fixedAt (now (s .entry)) ⌝ }
 {
-    if s.len() != STATE_SIZE {
-        return unread();
+    if s.len() < FIXED_SIZE {
+        return EngineRead::Broken;
     }
-    if number(&s[..4]) != 0x48535031 {
-        return unread();
+    if four_at(s, 0) != VERSION {
+        return EngineRead::Broken;
     }
-    let read_phase = read_phase(s[4], s[5]);
-    if !read_phase.fine {
-        return unread();
-    }
-    let read = Connection::from_bytes(&s[6..]);
-    if !read.fine {
-        return unread();
-    }
-    let phase = read_phase.phase;
-    let connection = read.connection;
-    EngineRead {
-        fine: true,
-        engine: ConnectionEngine::resumed(phase, connection),
-    }
+    let RoleRead::Is(role) = numbers::role_with(s[4]) else {
+        return EngineRead::Broken;
+    };
+    let PhaseRead::Is(phase) = numbers::phase_with(s[16], s[17]) else {
+        return EngineRead::Broken;
+    };
+    let NumberedState::Is(state) = ConnectionState::with_number(s[18]) else {
+        return EngineRead::Broken;
+    };
+    read_rest(s, role, phase, state)
 }
 
-// Lays the engine as 3,102 bytes at the front of the buffer, if they fit.
-pub fn write(engine: ConnectionEngine, out: &mut [u8])
-    ensures { λ _. ⌜ WritesEngine engine (now (out .entry)) (now (out .exit)) ⌝ }
+// The engine in a role, a phase and a state whose other numbers stand in the bytes.
+fn read_rest(s: &[u8], role: Role, phase: Phase, state: ConnectionState) -> EngineRead
+    requires { ⌜ 300 ≤ length (now s) ⌝ }
+    ensures { λ r. ⌜ readSays (idAt (now (s .entry))) r ≡ restAt (roleSays role) (phaseSays phase) (stateSays state) (now (s .entry)) ⌝ }
 {
-    if out.len() < STATE_SIZE {
+    let NewOpen::Taken(open) = read_open(s) else {
+        return EngineRead::Broken;
+    };
+    let counts = read_counts(s);
+    if !counts.fine {
+        return EngineRead::Broken;
+    }
+    if !covers(&s[FIXED_SIZE..], open.channel_max()) {
+        return EngineRead::Broken;
+    }
+    let outgoing = counts.channels;
+    let reading = four_at(s, 20);
+    let resumed = Connection::resumed(state, role, open, reading, four_at(s, 24), outgoing);
+    let ResumedConnection::Is(connection) = resumed else {
+        return EngineRead::Broken;
+    };
+    EngineRead::Is(ConnectionEngine::resumed(phase, connection))
+}
+
+// Lays the counts from 28 on, if they fit there.
+fn put_counts(outgoing: OutgoingChannels, out: &mut [u8])
+    ensures { λ _. ⌜ now (out .exit) ≡ put (now (out .entry)) 28 (numberBytes outgoing) ⌝ }
+{
+    if out.len() < 42 {
         return;
     }
-    copy(out, 0, b"HSP1");
-    put_phase(engine.phase(), out, 4);
+    put_number(out, 28, 4, outgoing.used() as u64);
+    put_number(out, 32, 4, outgoing.head() as u64);
+    put_number(out, 36, 4, outgoing.freed() as u64);
+    put_number(out, 40, 2, outgoing.highest() as u64);
+}
+
+fn flag(b: bool) -> u64
+    ensures { λ r. ⌜ r ≡ one b ⌝ }
+{
+    if b {
+        return 1;
+    }
+    0
+}
+
+// Lays what calls can change of an engine from 16 on, if it fits there.
+pub fn write(engine: ConnectionEngine, out: &mut [u8])
+    ensures { λ _. ⌜ now (out .exit) ≡ put (now (out .entry)) 16 (movingBytes (fixedIn engine [])) ⌝ }
+{
+    if out.len() < 42 {
+        return;
+    }
     let connection = engine.connection();
-    connection.write_at(out, 6);
+    let state = connection.state();
+    let outgoing = connection.outgoing();
+    put_phase(engine.phase(), out, 16);
+    put_number(out, 18, 1, state.number() as u64);
+    put_number(out, 19, 1, flag(outgoing.is_opened()));
+    put_number(out, 20, 4, connection.reading_limit() as u64);
+    put_number(out, 24, 4, connection.writing_limit() as u64);
+    put_counts(outgoing, out);
+}
+
+// Lays the layout's name, the role and the settings but for the container-id, if they fit there.
+fn put_settings(engine: ConnectionEngine, out: &mut [u8])
+    ensures { λ _. ⌜ now (out .exit) ≡ put (now (out .entry)) 0 (settingBytes (fixedIn engine [])) ⌝ }
+{
+    if out.len() < 16 {
+        return;
+    }
+    let connection = engine.connection();
+    let open = connection.local_open();
+    let idle = open.idle_time_out();
+    put_number(out, 0, 4, VERSION as u64);
+    put_number(out, 4, 1, role_number(connection.role()) as u64);
+    put_number(out, 5, 1, flag(numbers::is_there(idle)));
+    put_number(out, 6, 2, open.channel_max() as u64);
+    put_number(out, 8, 4, open.max_frame_size() as u64);
+    put_number(out, 12, 4, numbers::millis(idle) as u64);
+}
+
+// Lays all that is fixed of an engine with its container-id at the front, if it fits there.
+pub fn write_new(engine: ConnectionEngine, container_id: &[u8], out: &mut [u8])
+    ensures { λ _. ⌜ now (out .exit) ≡ put (now (out .entry)) 0 (fixedBytes (fixedIn engine (now («container_id» .entry)))) ⌝ }
+{
+    if out.len() < ID {
+        return;
+    }
+    if out.len() - ID < container_id.len() {
+        return;
+    }
+    put_settings(engine, out);
+    write(engine, out);
+    put_number(out, 42, 2, container_id.len() as u64);
+    copy(out, ID, container_id);
 }

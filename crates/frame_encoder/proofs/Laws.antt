@@ -1,7 +1,7 @@
--- Laws of written frames: their length, how they come about by writes one after the other, and the order of refusals.
+-- Laws of written frames: their length, how they come about by writes one after the other, and the order of refusals. Within which limits settings are.
 -- Assumes nothing.
 use mathlib.Core.Path.{_≡_, refl, sym, ap, _∙_, subst}
-use mathlib.Core.Bool.{Bool, true, false}
+use mathlib.Core.Bool.{Bool, true, false, and-eq-true-iff}
 use mathlib.Core.List.{List, [], _∷_, _++_, append-assoc, append-nil}
 use mathlib.Core.Option.{Option, none, some}
 use Prim.Native.Nat.{ℕ, zero, suc, _+_, _*_, _-_, _/_, _%_, _^_, _<_, _≤_}
@@ -10,16 +10,17 @@ use lib.ListN.{length, length-append}
 use lib.Dec.{leb, eqb}
 use mir.Syntax.{w16, w32}
 use mir.Val.{Fits}
-use borrow.Author.Tests.{le-leb, lt-leb, eq-eqb, ne-eqb}
+use borrow.Author.Tests.{le-leb, lt-leb, eq-eqb, ne-eqb, leb-true}
 use Rattle.octets.specs.Verdict.{Verdict, refuse, accept, require}
 use Rattle.octets.specs.Octets.{bytesOf, put, startsWith}
 use Rattle.octets.specs.Output.{roomFor, Wrote}
 use Rattle.octets.specs.declared.Written.the-variants.{Bytes, Refused}
 use Rattle.octets.proofs.Laws.{length-bytesOf, length-put, put-put, put-next, room-yes, room-no, wrote-no, wrote-yes, require-on, require-off}
+use Rattle.text.specs.Utf8.{utf8}
 use Rattle.values.specs.Null.{null, isNull}
 use Rattle.serializer.specs.Written.{uint, ushort, text, joined, trimmed, compositeHeader, composite}
 use Rattle.serializer.proofs.Laws.{uint-none, uint-small, uint-large}
-use Rattle.frame_encoder.specs.Frames.{frameHeader, frameBytes, limited, writeFrame}
+use Rattle.frame_encoder.specs.Frames.{frameHeader, frameBytes, limited, writeFrame, settingsOk}
 
 -- ---- a frame
 
@@ -99,6 +100,25 @@ module _ (code count size : ℕ) (fs : List (List ℕ)) (counts : count ≡ leng
         rw (length-append, ← counts, ← sizes) (omega arith) in
         q ∙ rw p (put-next (frameHeader n 0 ++ compositeHeader code count size) (joined (trimmed fs)) d at l (omega arith)
         ∙ rw (b, ← counts, ← sizes) (ap (put d 0) (append-assoc (frameHeader n 0) (compositeHeader code count size) (joined (trimmed fs)))))
+
+-- ---- settings
+
+-- what their test says, limit by limit
+pub record Within (containerId : List ℕ) (maxFrameSize channelMax : ℕ) : Type 0 where
+  pub id-short : length containerId ≤ 255
+  pub id-text : utf8 containerId ≡ true
+  pub size-low : 512 ≤ maxFrameSize
+  pub size-high : maxFrameSize ≤ 16384
+  pub channel-high : channelMax ≤ 65535
+
+pub settings-within : (containerId : List ℕ) (maxFrameSize channelMax : ℕ) → settingsOk containerId maxFrameSize channelMax ≡ true → Within containerId maxFrameSize channelMax
+unfolding settingsOk
+settings-within containerId maxFrameSize channelMax ok =
+    let a = and-eq-true-iff (leb (length containerId) 255) _ .0 ok in
+    let b = and-eq-true-iff (utf8 containerId) _ .0 (a .1) in
+    let c = and-eq-true-iff (leb 512 maxFrameSize) _ .0 (b .1) in
+    let d = and-eq-true-iff (leb maxFrameSize 16384) _ .0 (c .1) in
+    record { id-short = leb-true _ _ (a .0); id-text = b .0; size-low = leb-true _ _ (c .0); size-high = leb-true _ _ (d .0); channel-high = leb-true _ _ (d .1) }
 
 -- ---- fields
 

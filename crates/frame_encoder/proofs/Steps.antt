@@ -28,7 +28,7 @@ use Rattle.frame_encoder.specs.declared.IdleTimeOut.{IdleTimeOut}
 use Rattle.frame_encoder.specs.declared.IdleTimeOut.the-variants.{Never, Millis}
 use Rattle.frame_encoder.specs.Frames.{Settings, ErrorText, frameHeader, frameBytes, settingsOk, idleField, idleKept, openFields, writeOpen, descriptionOk, errorOk, descriptionField, errorFields, errorField, writeClose, writeEmpty}
 use Rattle.frame_encoder.specs.Answers.{idleSaid, settings, given, errorText, Sized, ErrorSized, Short, ErrorRoom}
-use Rattle.frame_encoder.proofs.Laws.{header-bytes, length-header, uint-not-null, wrote-9, wrote-8, wrote-27, wrote-frame, framed-length, framed}
+use Rattle.frame_encoder.proofs.Laws.{header-bytes, length-header, settings-within, uint-not-null, wrote-9, wrote-8, wrote-27, wrote-frame, framed-length, framed}
 
 -- ---- put_frame_header
 
@@ -64,9 +64,9 @@ module _ (containerId : List ℕ) (maxFrameSize channelMax : ℕ) where
         unfolding settingsOk
         size-high h = rw (le-leb _ _ short, ← u, t, le-leb _ _ low, lt-leb _ _ h)
 
-        pub settings-last : maxFrameSize ≤ 16384 → leb channelMax 255 ≡ settingsOk containerId maxFrameSize channelMax
+        pub settings-last : maxFrameSize ≤ 16384 → Fits w16 channelMax → true ≡ settingsOk containerId maxFrameSize channelMax
         unfolding settingsOk
-        settings-last h = rw (le-leb _ _ short, ← u, t, le-leb _ _ low, le-leb _ _ h)
+        settings-last h f = let l : channelMax ≤ 65535 = omega arith in rw (le-leb _ _ short, ← u, t, le-leb _ _ low, le-leb _ _ h, le-leb _ _ l)
 
 -- ---- the fields of an Open
 
@@ -152,13 +152,8 @@ open-laid containerId maxFrameSize channelMax idle d at n m o₁ o₂ o₃ o₄ 
 
 -- ---- write_open
 
-ok-short-at : (containerId : List ℕ) (maxFrameSize channelMax : ℕ) (b : Bool) → leb (length containerId) 255 ≡ b → settingsOk containerId maxFrameSize channelMax ≡ true → length containerId ≤ 255
-unfolding settingsOk
-ok-short-at containerId maxFrameSize channelMax true e q = leb-true _ _ e
-ok-short-at containerId maxFrameSize channelMax false e q = let z : false ≡ true = (rw e at q) in absurd (false≢true z)
-
 pub ok-short : (containerId : List ℕ) (maxFrameSize channelMax : ℕ) (b : Bool) → b ≡ settingsOk containerId maxFrameSize channelMax → b ≡ true → length containerId ≤ 255
-ok-short containerId maxFrameSize channelMax b e q = ok-short-at containerId maxFrameSize channelMax (leb (length containerId) 255) refl (sym e ∙ q)
+ok-short containerId maxFrameSize channelMax b e q = settings-within containerId maxFrameSize channelMax (sym e ∙ q) .id-short
 
 -- room for the fields, after what stands before them
 pub fields-room : (fs : List (List ℕ)) (code count size n at : ℕ) (d o : List ℕ) (h : List ℕ) → Sized fs count size → n ≡ 8 + length (compositeHeader code count size) + size → at ≡ 8 + length (compositeHeader code count size) → 16384 ≤ length d → o ≡ put d 0 h → at + length (joined (trimmed fs)) ≤ length o

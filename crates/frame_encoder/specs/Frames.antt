@@ -40,11 +40,11 @@ pub record Settings : Type 0 where
   pub channelMax : ℕ
   pub idleTimeOut : Option ℕ
 
--- a container-id of at most 255 bytes in UTF-8, a max-frame-size from 512 to 16,384, a channel-max of at most 255
+-- a container-id of at most 255 bytes in UTF-8, a max-frame-size from 512 to 16,384, a channel-max of at most 65,535
 unfoldable pub settingsOk : List ℕ → ℕ → ℕ → Bool
 settingsOk containerId maxFrameSize channelMax =
     leb (length containerId) 255 && (utf8 containerId
-    && (leb 512 maxFrameSize && (leb maxFrameSize 16384 && leb channelMax 255)))
+    && (leb 512 maxFrameSize && (leb maxFrameSize 16384 && leb channelMax 65535)))
 
 unfoldable pub idleField : Option ℕ → List ℕ
 idleField none = null

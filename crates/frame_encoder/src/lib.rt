@@ -52,7 +52,7 @@ pub fn put_frame_header(out: &mut [u8], size: u32, channel: u16)
     );
 }
 
-// Whether a container-id, a max-frame-size and a channel-max are within their limits: else the settings are refused with 8.
+// Whether a container-id, a max-frame-size and a channel-max are within their limits: else the settings are refused with 8. Every u16 is a channel-max.
 pub fn settings_ok(container_id: &[u8], max_frame_size: u32, channel_max: u16) -> bool
     ensures { λ r. ⌜ r ≡ settingsOk (now («container_id» .entry)) «max_frame_size» «channel_max» ⌝ }
 {
@@ -68,7 +68,7 @@ pub fn settings_ok(container_id: &[u8], max_frame_size: u32, channel_max: u16) -
     if MAX_FRAME_SIZE < max_frame_size {
         return false;
     }
-    channel_max <= 255
+    true
 }
 
 // The fields of an Open: those that are left, without the null in the place of the idle-time-out.

@@ -1,10 +1,9 @@
 -- How numbers are laid into the lent answer, one after the other, with the facts as they come.
 -- Assumes nothing.
 use mathlib.Core.Path.{_≡_, refl, sym, _∙_, ap, ap₂}
-use mathlib.Core.Bool.{Bool, true, false}
 use mathlib.Core.List.{List, [], _∷_, _++_, append-assoc}
 use mathlib.Core.Option.{Option, some}
-use Prim.Native.Nat.{ℕ, _+_, _≤_, _<_}
+use Prim.Native.Nat.{ℕ, _≤_, _<_}
 use native.Mathlib.Omega.{arith}
 use lib.ListN.{length, length-append}
 use types.Run.{OneOf, miss}
@@ -12,21 +11,20 @@ use denote.Enum.Declared.{tagOf}
 use Rattle.octets.specs.Octets.{bytesOf, put}
 use Rattle.octets.specs.Verdict.{Verdict}
 use Rattle.octets.proofs.Laws.{length-bytesOf, put-not}
-use Rattle.layout.proofs.Parts.{Laid, first, more}
+use Rattle.layout.proofs.Parts.{first, more}
 use Rattle.connection_model.specs.Connection.{Answer}
-use Rattle.engine_model.proofs.Laws.{clash}
 use Rattle.engine.specs.declared.ConnectionEngine.{ConnectionEngine}
 use Rattle.engine.specs.declared.Outcome.{Outcome}
 use Rattle.engine.specs.declared.Outcome.the-variants.{Fine, TransportError, IllegalState, NotFound, NotImplemented, RemoteClosed, RemoteClosedWithError}
 use Rattle.engine.specs.declared.Running.{Running}
 use Rattle.engine.specs.declared.Running.the-variants.{Continue, Stop, Refused}
 use Rattle.engine.proofs.Running.{the-type as running-type}
-use Rattle.engine.specs.Answers.{Sound, outcomeSays, replySays}
+use Rattle.engine.specs.Answers.{outcomeSays, replySays}
 use Rattle.engine_bytes.specs.Bytes.{outcomeNumber}
 use Rattle.hisproat.specs.declared.answers.Done.{Done}
 use Rattle.hisproat.specs.Answers.{Inner, inner, innerOf, innerBytes, endedBytes, replyBytes}
 use Rattle.hisproat.specs.Crossing.{answerAfter}
-use Rattle.hisproat.specs.Promises.{innerSays, stateAfter, Lays, Finishes, Tells, FinishesKept}
+use Rattle.hisproat.specs.Promises.{innerSays, Lays, Finishes}
 
 -- ---- what the call inside answered
 
@@ -76,11 +74,14 @@ answer-laid d o p q r s stopped outcome i consumed written h e1 e2 e3 e4 e5 =
 
 -- ---- an event's end
 
--- the number and the answer
-
-module _ (d : Done) (a a′ : List ℕ) where
-  pub tell-refused : (k : ℕ) → d .running ≡ Refused k → Tells d a k a
-  tell-refused k e = record { tells-number = λ v. rw e refl; tells-answer = λ v p. rw e refl }
+module _ (d : Done) (x : ConnectionEngine) (s a s′ a′ : List ℕ) where
+  pub finish-refused : (k : ℕ) → d .running ≡ Refused k → Finishes d x s a k s a
+  finish-refused k e = record {
+    finishes-number = λ v. rw e refl;
+    finishes-answer = λ v p. rw e refl;
+    finishes-state = λ v. rw e refl;
+    finishes-not = λ n. (refl, refl);
+  }
 
   runs : (r : Running) → OneOf (0 ∷ []) (tagOf running-type r) → r ≡ Continue
   runs Continue o = refl
@@ -93,8 +94,15 @@ module _ (d : Done) (a a′ : List ℕ) where
   unfolding replyBytes bytesOf
   goes-on v p l = l ∙ ap (λ i. put a 0 (laidOut 0 0 i (d .consumed) (d .written))) p
 
-  pub tell-continue : OneOf (0 ∷ []) (tagOf running-type (d .running)) → a′ ≡ put a 0 (laidOut 0 0 (innerSays (d .inner)) (d .consumed) (d .written)) → Tells d a 0 a′
-  tell-continue o l = let e = runs (d .running) o in record { tells-number = λ v. rw e refl; tells-answer = λ v p. rw e (goes-on v p l) }
+  pub finish-continue : OneOf (0 ∷ []) (tagOf running-type (d .running)) → Lays 0 0 d x s a s′ a′ → Finishes d x s a 0 s′ a′
+  finish-continue o l =
+      let e = runs (d .running) o in
+      record {
+        finishes-number = λ v. rw e refl;
+        finishes-answer = λ v p. rw e (goes-on v p (l .lays-answer));
+        finishes-state = λ v. rw e (l .lays-state);
+        finishes-not = λ n. absurd (n refl);
+      }
 
   ended-laid : (o : Outcome) → bytesOf 1 1 ++ bytesOf 1 (outcomeNumber (outcomeSays o)) ≡ endedBytes (some (outcomeSays o))
   unfolding bytesOf
@@ -113,46 +121,15 @@ module _ (d : Done) (a a′ : List ℕ) where
   stops o v p l =
       l
       ∙ ap (put a 0) (sym (append-assoc (bytesOf 1 1) (bytesOf 1 (outcomeNumber (outcomeSays o))) (innerBytes (innerSays (d .inner)) ++ (bytesOf 8 (d .consumed) ++ bytesOf 8 (d .written)))))
-      ∙ ap₂ (λ x i. put a 0 (x ++ (innerBytes i ++ (bytesOf 8 (d .consumed) ++ bytesOf 8 (d .written))))) (ended-laid o) p
-
-  pub tell-stop :
-      (o : Outcome) (n : ℕ) → d .running ≡ Stop o → n ≡ outcomeNumber (outcomeSays o) → a′ ≡ put a 0 (laidOut 1 n (innerSays (d .inner)) (d .consumed) (d .written)) → Tells d a 0 a′
-  tell-stop o n e q l =
-      let m : a′ ≡ put a 0 (laidOut 1 (outcomeNumber (outcomeSays o)) (innerSays (d .inner)) (d .consumed) (d .written)) = l ∙ ap (λ x. put a 0 (laidOut 1 x (innerSays (d .inner)) (d .consumed) (d .written))) q in
-      record { tells-number = λ v. rw e refl; tells-answer = λ v p. rw e (stops o v p m) }
-
--- and the state
-
-module _ (d : Done) (x : ConnectionEngine) (s a s′ a′ : List ℕ) where
-  with-state :
-      (k : ℕ) → Tells d a k a′ → (Sound x → (v : Option (Verdict Answer)) → s′ ≡ stateAfter (replySays (d .running) (d .consumed) (d .written) v) s x)
-      → Finishes d x s a k s′ a′
-  with-state k t z = record { finishes-number = t .tells-number; finishes-answer = t .tells-answer; finishes-state = z }
-
-  pub finish-refused : (k : ℕ) → d .running ≡ Refused k → Finishes d x s a k s a
-  finish-refused k e = record {
-    finishes-number = λ v. rw e refl;
-    finishes-answer = λ v p. rw e refl;
-    finishes-state = λ z v. rw e refl;
-  }
-
-  pub finish-continue : OneOf (0 ∷ []) (tagOf running-type (d .running)) → Lays 0 0 d x s a s′ a′ → Finishes d x s a 0 s′ a′
-  finish-continue o l =
-      let e = runs d a a′ (d .running) o in
-      with-state 0 (tell-continue d a a′ o (l .lays-answer)) (λ z v. rw e (l .lays-state z))
+      ∙ ap₂ (λ y i. put a 0 (y ++ (innerBytes i ++ (bytesOf 8 (d .consumed) ++ bytesOf 8 (d .written))))) (ended-laid o) p
 
   pub finish-stop : (o : Outcome) (n : ℕ) → d .running ≡ Stop o → n ≡ outcomeNumber (outcomeSays o) → Lays 1 n d x s a s′ a′ → Finishes d x s a 0 s′ a′
-  finish-stop o n e q l = with-state 0 (tell-stop d a a′ o n e q (l .lays-answer)) (λ z v. rw e (l .lays-state z))
-
--- an engine that is kept is not laid
-
-pub kept-told : (kept : Bool) (d : Done) (x : ConnectionEngine) (s a : List ℕ) (k : ℕ) (a′ : List ℕ) → kept ≡ true → Tells d a k a′ → FinishesKept kept d x s a k s a′
-kept-told kept d x s a k a′ e t = record { kept-told = t; kept-state = λ q. refl; kept-not = λ q. clash (sym e ∙ q) }
-
-pub kept-not :
-    (kept : Bool) (d : Done) (x : ConnectionEngine) (s a : List ℕ) (k : ℕ) (s′ a′ : List ℕ) → kept ≡ false → Finishes d x s a k s′ a′ → FinishesKept kept d x s a k s′ a′
-kept-not kept d x s a k s′ a′ e f = record {
-  kept-told = record { tells-number = f .finishes-number; tells-answer = f .finishes-answer };
-  kept-state = λ q. clash (sym q ∙ e);
-  kept-not = λ q. f .finishes-state;
-}
+  finish-stop o n e q l =
+      let m : a′ ≡ put a 0 (laidOut 1 (outcomeNumber (outcomeSays o)) (innerSays (d .inner)) (d .consumed) (d .written)) =
+      l .lays-answer ∙ ap (λ y. put a 0 (laidOut 1 y (innerSays (d .inner)) (d .consumed) (d .written))) q in
+      record {
+        finishes-number = λ v. rw e refl;
+        finishes-answer = λ v p. rw e (stops o v p m);
+        finishes-state = λ v. rw e (l .lays-state);
+        finishes-not = λ n. absurd (n refl);
+      }

@@ -14,8 +14,8 @@ use Rattle.connection_model.specs.Connection.{Role}
 use Rattle.connection.proofs.Runs.{Returned}
 use Rattle.engine_model.specs.Engine.{Event, sendHeader, receiveHeader, sendOpen, incoming, closeOrder, allocate, deallocate, outgoing, tick, endOfInput, notDelivered}
 use Rattle.hisproat.specs.Answers.{flagged, settingsOf}
-use Rattle.hisproat.specs.Crossing.{Crossing, crossing}
-use Rattle.hisproat.specs.Lists.{Called, Shown, shown}
+use Rattle.hisproat.specs.Crossing.{Crossing, crossing, Shown, shown}
+use Rattle.hisproat.specs.Lists.{Called}
 use Rattle.hisproat.proofs.hisproat_send_header.Reads as SendHeaderReads
 use Rattle.hisproat.proofs.hisproat_send_header.Kinds as SendHeaderKinds
 use Rattle.hisproat.proofs.hisproat_receive_header.Reads as ReceiveHeaderReads

@@ -17,7 +17,7 @@ use Rattle.layout.specs.Layout.{held}
 use Rattle.channels.specs.Numbers.{one}
 use Rattle.frame_encoder.specs.declared.IdleTimeOut.the-variants.{Never, Millis}
 use Rattle.frame_encoder.specs.Answers.{idleSaid}
-use Rattle.connection.specs.View.{headerSays, allocateSays, tickSays}
+use Rattle.connection.specs.View.{headerSays, allocateSays, freedSays, tickSays}
 use Rattle.connection.specs.declared.HeaderAnswer.{HeaderAnswer}
 use Rattle.connection.specs.declared.HeaderAnswer.the-variants.{Amqp, OtherProtocol, Refused as NoHeader}
 use Rattle.connection.proofs.HeaderAnswer.{the-type as header-type}
@@ -30,11 +30,11 @@ use Rattle.endpoint.specs.Answers.{answerSays, sentSays}
 use Rattle.endpoint.specs.declared.FrameAnswer.{FrameAnswer}
 use Rattle.endpoint.specs.declared.FrameAnswer.the-variants.{NothingToDo, Opened, Closed, Forward, Began, Refused as NoFrame}
 use Rattle.endpoint.proofs.FrameAnswer.{the-type as frame-type}
-use Rattle.engine.specs.declared.DeallocateAnswer.{DeallocateAnswer}
-use Rattle.engine.specs.declared.DeallocateAnswer.the-variants.{Freed, Refused as NotFreed}
+use Rattle.connection.specs.declared.DeallocateAnswer.{DeallocateAnswer}
+use Rattle.connection.specs.declared.DeallocateAnswer.the-variants.{Freed, Refused as NotFreed}
 use Rattle.engine.specs.declared.Running.{Running}
 use Rattle.engine.specs.declared.Running.the-variants.{Continue, Refused}
-use Rattle.engine.specs.Answers.{replySays, openingSays, freedSays, sentCount, tickCount}
+use Rattle.engine.specs.Answers.{replySays, openingSays, sentCount, tickCount}
 use Rattle.hisproat.specs.declared.answers.Inner as I
 use Rattle.hisproat.specs.declared.answers.Done.{Done}
 use Rattle.hisproat.specs.Answers.{flagged, Inner, inner, innerOf}

@@ -3,7 +3,7 @@
 use mathlib.Core.Bool.{Bool, not}
 use mathlib.Core.List.{List, [], _∷_, _++_}
 use mathlib.Core.Option.{Option, none, some}
-use Prim.Native.Nat.{ℕ}
+use Prim.Native.Nat.{ℕ, suc}
 use lib.Dec.{eqb}
 use Rattle.octets.specs.Octets.{bytesOf}
 use Rattle.octets.specs.Verdict.{Verdict, refuse, accept}
@@ -12,9 +12,8 @@ use Rattle.frame_encoder.specs.Frames.{Settings}
 use Rattle.connection_state.specs.States.{numbered}
 use Rattle.channels.specs.Numbers.{one, takenBelow}
 use Rattle.connection_model.specs.Connection.{Role, Answer, wrote, stop, header, otherProtocol, nothingToDo, opened, closed, forward, began, channel, freed}
-use Rattle.endpoint.specs.Bytes.{roleNumber}
 use Rattle.engine_model.specs.Engine.{Outcome, Reply, Engine}
-use Rattle.engine_bytes.specs.Bytes.{outcomeNumber, phaseBytes}
+use Rattle.engine_bytes.specs.Bytes.{roleNumber, outcomeNumber, phaseBytes}
 
 -- a flag: 0 is no, anything else is yes
 abbrev pub flagged : ℕ → Bool
@@ -71,13 +70,13 @@ endedBytes (some o) = 1 ∷ outcomeNumber o ∷ []
 unfoldable pub replyBytes : Reply → List ℕ
 replyBytes r = endedBytes (r .ended) ++ (innerBytes (innerOf (r .inner)) ++ (bytesOf 8 (r .consumed) ++ bytesOf 8 (r .written)))
 
--- ---- what an engine is, 16 bytes
---     1  role    1  phase    1  outcome    1  state    4  reading limit    4  writing limit    2  whether a channel-max is agreed, and which    2  how many channels are taken
+-- ---- what an engine is, 19 bytes
+--     1  role    1  phase    1  outcome    1  state    4  reading limit    4  writing limit    3  whether a channel-max is agreed, and which    4  how many channels are taken
 
 unfoldable pub statusBytes : Role → Settings → Engine → List ℕ
 statusBytes role S e =
-    roleNumber role ∷ (phaseBytes (e .phase) ++ (numbered (e .connection .state) ∷ (bytesOf 4 (e .connection .readingLimit) ++ (bytesOf 4 (e .connection .writingLimit)
-    ++ (may 1 (e .connection .agreedMax) ++ bytesOf 2 (takenBelow 256 (e .connection .taken)))))))
+    bytesOf 1 (roleNumber role) ++ (phaseBytes (e .phase) ++ (bytesOf 1 (numbered (e .connection .state)) ++ (bytesOf 4 (e .connection .readingLimit) ++ (bytesOf 4 (e .connection .writingLimit)
+    ++ (may 2 (e .connection .agreedMax) ++ bytesOf 4 (takenBelow (suc (S .channelMax)) (e .connection .taken)))))))
 
 -- ---- the handle at a channel, 5 bytes: whether there is one, and which
 

@@ -1,28 +1,25 @@
 -- What passes between the private functions. No exported promise speaks of these.
 -- Assumes nothing: these are definitions.
 use mathlib.Core.Path.{_≡_}
-use mathlib.Core.Bool.{Bool, true, false, not, _||_}
-use mathlib.Core.List.{List, _++_}
+use mathlib.Core.List.{List, [], _++_}
 use mathlib.Core.Option.{Option}
-use Prim.Native.Nat.{ℕ}
-use lib.Dec.{eqb}
+use Prim.Native.Nat.{ℕ, _≤_}
+use lib.ListN.{length}
 use Rattle.octets.specs.Octets.{bytesOf, put}
 use Rattle.octets.specs.Verdict.{Verdict, refuse, accept}
-use Rattle.connection_model.specs.Connection.{Role, dialler, listener, Answer, wrote, stop, header, otherProtocol, nothingToDo, opened, closed, forward, began, channel, freed}
+use Rattle.connection_model.specs.Connection.{Answer}
 use Rattle.connection.specs.declared.HeaderAnswer.{HeaderAnswer}
 use Rattle.connection.specs.declared.HeaderAnswer.the-variants.{Amqp, OtherProtocol, Refused as NoHeader}
 use Rattle.engine_model.specs.Engine.{Reply}
-use Rattle.layout.specs.Layout.{may}
-use Rattle.channels.specs.Numbers.{takenBelow}
-use Rattle.local_open.specs.Settings.{checkSays}
-use Rattle.connection.specs.declared.Connection.{Connection}
-use Rattle.connection.specs.View as View
 use Rattle.engine.specs.declared.ConnectionEngine.{ConnectionEngine}
 use Rattle.engine.specs.declared.NewEngine.{NewEngine}
 use Rattle.engine.specs.declared.Running.{Running}
-use Rattle.engine.specs.declared.Running.the-variants.{Continue, Stop, Refused}
-use Rattle.engine.specs.Answers.{roleOf, settingsOf, viewOf, Sound, replySays}
-use Rattle.engine_bytes.specs.Bytes.{engineBytes}
+use Rattle.engine.specs.declared.Running.the-variants.{Continue, Refused}
+use Rattle.engine.specs.declared.NewEngine.the-variants.{Made, Refused as NotMade}
+use Rattle.engine.specs.Answers.{Whole, roleOf, settingsOf, viewOf, Sound, replySays}
+use Rattle.layout.specs.Layout.{may}
+use Rattle.engine_bytes.specs.Bytes.{movingBytes, fixedBytes, idAt}
+use Rattle.engine_bytes.specs.Promises.{fixedIn}
 use Rattle.hisproat.specs.declared.answers.Inner as I
 use Rattle.hisproat.specs.declared.answers.Done.{Done}
 use Rattle.hisproat.specs.Answers.{Inner, inner, innerOf, innerBytes, statusBytes}
@@ -42,70 +39,37 @@ pub record Amounts (d : Done) (v : Option (Verdict Answer)) (reply : Verdict Rep
   pub amounts-inner : innerSays (d .inner) ≡ innerOf v
   pub amounts-reply : replySays (d .running) (d .consumed) (d .written) v ≡ reply
 
--- the state after a reply: the engine's bytes, unless it is a refusal
+-- the state after a reply: what calls can change is laid, unless it is a refusal
 abbrev pub stateAfter : Verdict Reply → List ℕ → ConnectionEngine → List ℕ
 stateAfter (refuse k) s e = s
-stateAfter (accept r) s e = put s 0 (engineBytes (roleOf e) (settingsOf e) (viewOf e))
+stateAfter (accept r) s e = put s 16 (movingBytes (fixedIn e []))
 
 pub record Lays (stopped outcome : ℕ) (d : Done) (e : ConnectionEngine) (s a s′ a′ : List ℕ) : Type 0 where
   pub lays-answer : a′ ≡ put a 0 (bytesOf 1 stopped ++ (bytesOf 1 outcome ++ (innerBytes (innerSays (d .inner)) ++ (bytesOf 8 (d .consumed) ++ bytesOf 8 (d .written)))))
-  pub lays-state : Sound e → s′ ≡ put s 0 (engineBytes (roleOf e) (settingsOf e) (viewOf e))
+  pub lays-state : s′ ≡ put s 16 (movingBytes (fixedIn e []))
 
 -- whatever the call inside answered in these numbers: what is returned, and the answer and the state afterwards
 pub record Finishes (d : Done) (e : ConnectionEngine) (s a : List ℕ) (k : ℕ) (s′ a′ : List ℕ) : Type 0 where
   pub finishes-number : (v : Option (Verdict Answer)) → k ≡ returnedBy (replySays (d .running) (d .consumed) (d .written) v)
   pub finishes-answer : (v : Option (Verdict Answer)) → innerSays (d .inner) ≡ innerOf v → a′ ≡ answerAfter (replySays (d .running) (d .consumed) (d .written) v) a
-  pub finishes-state : Sound e → (v : Option (Verdict Answer)) → s′ ≡ stateAfter (replySays (d .running) (d .consumed) (d .written) v) s e
-
--- the same of the number and the answer alone
-pub record Tells (d : Done) (a : List ℕ) (k : ℕ) (a′ : List ℕ) : Type 0 where
-  pub tells-number : (v : Option (Verdict Answer)) → k ≡ returnedBy (replySays (d .running) (d .consumed) (d .written) v)
-  pub tells-answer : (v : Option (Verdict Answer)) → innerSays (d .inner) ≡ innerOf v → a′ ≡ answerAfter (replySays (d .running) (d .consumed) (d .written) v) a
-
--- the state stays where the engine is kept
-pub record FinishesKept (kept : Bool) (d : Done) (e : ConnectionEngine) (s a : List ℕ) (k : ℕ) (s′ a′ : List ℕ) : Type 0 where
-  pub kept-told : Tells d a k a′
-  pub kept-state : kept ≡ true → s′ ≡ s
-  pub kept-not : kept ≡ false → Sound e → (v : Option (Verdict Answer)) → s′ ≡ stateAfter (replySays (d .running) (d .consumed) (d .written) v) s e
-
--- ---- which events keep the engine
-
--- a performative between Begin and End
-abbrev pub between : ℕ → Bool
-between code = not (eqb code 17 || eqb code 23)
-
--- a frame that was read only goes on to its session
-abbrev pub passedOn : Verdict Answer → Bool
-passedOn (refuse k) = false
-passedOn (accept (wrote n)) = false
-passedOn (accept stop) = false
-passedOn (accept (header n)) = false
-passedOn (accept (otherProtocol n)) = false
-passedOn (accept (nothingToDo n)) = false
-passedOn (accept (opened n idle)) = false
-passedOn (accept (closed n error)) = false
-passedOn (accept (forward n code h from len)) = between code
-passedOn (accept (began n ch h from len)) = false
-passedOn (accept (channel ch)) = false
-passedOn (accept (freed h)) = false
-
--- a session's frame of a dialler went out
-abbrev pub sentOn : Role → Running → Verdict Answer → Bool
-sentOn listener r v = false
-sentOn dialler Continue (accept a) = true
-sentOn dialler Continue (refuse k) = false
-sentOn dialler (Stop o) v = false
-sentOn dialler (Refused k) v = false
+  pub finishes-state : (v : Option (Verdict Answer)) → s′ ≡ stateAfter (replySays (d .running) (d .consumed) (d .written) v) s e
+  pub finishes-not : (k ≡ 0 → ⊥) → (s′ ≡ s) × (a′ ≡ a)
 
 -- ---- a new engine, and what is told of one
 
-pub record Starts (new : NewEngine) (s : List ℕ) (k : ℕ) (s′ : List ℕ) : Type 0 where
-  pub starts-number : checkSays (new .answer) ≡ accept tt → k ≡ 0
-  pub starts-state : checkSays (new .answer) ≡ accept tt → Sound (new .engine) → s′ ≡ put s 0 (engineBytes (roleOf (new .engine)) (settingsOf (new .engine)) (viewOf (new .engine)))
-  pub starts-not : (n : ℕ) → checkSays (new .answer) ≡ refuse n → (k ≡ n) × (s′ ≡ s)
+-- what a new engine comes to: its fixed part is laid, or its refusal returned
+pub record Starts (new : NewEngine) (id s : List ℕ) (k : ℕ) (s′ : List ℕ) : Type 0 where
+  pub starts : (e : ConnectionEngine) → new ≡ Made e → (k ≡ 0) × (s′ ≡ put s 0 (fixedBytes (fixedIn e id)))
+  pub starts-not : (n : ℕ) → new ≡ NotMade n → (k ≡ n) × (s′ ≡ s)
 
-pub record PutsChannels (c : Connection) (a a′ : List ℕ) : Type 0 where
-  pub puts-channels : View.Sound c → a′ ≡ put a 12 (may 1 (View.viewOf c .agreedMax) ++ bytesOf 2 (takenBelow 256 (View.viewOf c .taken)))
+-- the container-id of a state, where it is not longer than it may be
+pub record IsId (s r : List ℕ) : Type 0 where
+  pub is-id : length (idAt s) ≤ 255 → r ≡ idAt s
 
-pub record PutsStatus (e : ConnectionEngine) (a a′ : List ℕ) : Type 0 where
-  pub puts : Sound e → a′ ≡ put a 0 (statusBytes (roleOf e) (settingsOf e) (viewOf e))
+-- a handle that was looked up is laid, or the refusal returned
+pub record PutsHandle (found : Verdict (Option ℕ)) (a : List ℕ) (k : ℕ) (a′ : List ℕ) : Type 0 where
+  pub puts-handle : (h : Option ℕ) → found ≡ accept h → (k ≡ 0) × (a′ ≡ put a 0 (may 4 h))
+  pub puts-not : (n : ℕ) → found ≡ refuse n → (k ≡ n) × (a′ ≡ a)
+
+pub record PutsStatus (w : Whole) (a a′ : List ℕ) : Type 0 where
+  pub puts : Sound w → a′ ≡ put a 0 (statusBytes (roleOf w) (settingsOf w) (viewOf w))

@@ -1,26 +1,25 @@
 // What came of an event, in numbers, and how it is laid into the lent answer.
 use crate::ANSWER_SIZE;
 use connection::AllocateAnswer;
+use connection::DeallocateAnswer;
 use connection::HeaderAnswer;
 use connection::TickAnswer;
 use endpoint::FrameAnswer;
-use endpoint::Role;
 use engine::ConnectionEngine;
-use engine::DeallocateAnswer;
 use engine::Running;
+use engine_bytes::numbers::outcome_number;
 use octets::Written;
 use octets::put_number;
 ghost use mathlib.Core.Path.{_≡_};
 ghost use mathlib.Core.List.{_++_};
 ghost use mathlib.Core.Option.{none, some};
 ghost use Rattle.octets.specs.Octets.{bytesOf, put};
-ghost use Rattle.connection.specs.View.{headerSays, allocateSays, tickSays};
-ghost use Rattle.endpoint.specs.Answers.{roleSays, answerSays, sentSays};
-ghost use Rattle.engine.specs.Answers.{replySays, openingSays, freedSays, sentCount, tickCount};
+ghost use Rattle.connection.specs.View.{headerSays, allocateSays, freedSays, tickSays};
+ghost use Rattle.endpoint.specs.Answers.{answerSays, sentSays};
+ghost use Rattle.engine.specs.Answers.{replySays, openingSays, sentCount, tickCount};
 ghost use Rattle.hisproat.specs.Answers.{inner, innerOf, innerBytes};
 ghost use Rattle.channels.specs.Numbers.{one};
 ghost use Rattle.hisproat.specs.Promises.{innerSays, HeaderRuns, Amounts, Lays, Finishes};
-ghost use Rattle.hisproat.specs.Promises.{between, passedOn, sentOn, Tells, FinishesKept};
 
 // What the connection's call inside an event answered.
 const KIND_NONE: u8 = 0;
@@ -49,10 +48,8 @@ const KIND_CHANNEL: u8 = 11;
 
 const KIND_FREED: u8 = 12;
 
-// The codes of a Begin and an End.
+// The code of a Begin.
 const BEGIN: u8 = 17;
-
-const END: u8 = 23;
 
 // What the call inside answered, in numbers. What a kind does not have is zero.
 pub struct Inner {
@@ -122,7 +119,7 @@ fn allocate_inner(answer: AllocateAnswer) -> Inner
         AllocateAnswer::Channel(channel) => Inner {
             kind: KIND_CHANNEL,
             detail: 0,
-            channel: channel as u16,
+            channel,
             number: 0,
             from: 0,
             len: 0,
@@ -330,49 +327,6 @@ pub fn handled(running: Running, written: usize) -> Done
     }
 }
 
-// Whether a performative stands between a Begin and an End.
-fn is_between(code: u8) -> bool
-    ensures { λ r. ⌜ r ≡ between code ⌝ }
-{
-    if code == BEGIN {
-        return false;
-    }
-    code != END
-}
-
-// Whether a frame only went on to its session: it is neither a Begin nor an End, and leaves the engine as it was.
-pub fn passed_on(answer: FrameAnswer) -> bool
-    ensures { λ r. ⌜ r ≡ passedOn (answerSays answer) ⌝ }
-{
-    let FrameAnswer::Forward {
-        consumed: _,
-        code,
-        handle: _,
-        from: _,
-        len: _,
-    } = answer
-    else {
-        return false;
-    };
-    is_between(code)
-}
-
-// Whether a session's frame went out that leaves the engine as it was, as every one of a dialler does.
-pub fn sent_on(role: Role, running: Running, answer: Written) -> bool
-    ensures { λ r. ⌜ r ≡ sentOn (roleSays role) running (sentSays answer) ⌝ }
-{
-    let Role::Dialler = role else {
-        return false;
-    };
-    let Running::Continue = running else {
-        return false;
-    };
-    let Written::Bytes(_) = answer else {
-        return false;
-    };
-    true
-}
-
 // Lays what the call inside answered into the answer.
 fn put_inner(inner: Inner, answer: &mut [u8])
     ensures { λ _. ⌜ now (answer .exit) ≡ put (now (answer .entry)) 2 (innerBytes (innerSays inner)) ⌝ }
@@ -429,49 +383,8 @@ pub fn finish(done: Done, engine: ConnectionEngine, state: &mut [u8], answer: &m
             0
         }
         Running::Stop(outcome) => {
-            lay(
-                1,
-                engine_bytes::outcome_number(outcome),
-                done,
-                engine,
-                state,
-                answer,
-            );
+            lay(1, outcome_number(outcome), done, engine, state, answer);
             0
         }
     }
-}
-
-// Lays the answer of an event, unless the event was refused, and tells its refusal or 0.
-fn tell(done: Done, answer: &mut [u8]) -> u8
-    ensures { λ r. ⌜ Tells done (now (answer .entry)) r (now (answer .exit)) ⌝ }
-{
-    let running = done.running;
-    match running {
-        Running::Refused(refusal) => refusal,
-        Running::Continue => {
-            put_answer(0, 0, done, answer);
-            0
-        }
-        Running::Stop(outcome) => {
-            put_answer(1, engine_bytes::outcome_number(outcome), done, answer);
-            0
-        }
-    }
-}
-
-// The same as `finish`, where the bytes of an engine that is known to be as it was are not laid again.
-pub fn finish_kept(
-    kept: bool,
-    done: Done,
-    engine: ConnectionEngine,
-    state: &mut [u8],
-    answer: &mut [u8],
-) -> u8
-    ensures { λ r. ⌜ FinishesKept kept done engine (now (state .entry)) (now (answer .entry)) r (now (state .exit)) (now (answer .exit)) ⌝ }
-{
-    if kept {
-        return tell(done, answer);
-    }
-    finish(done, engine, state, answer)
 }

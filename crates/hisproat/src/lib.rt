@@ -1,41 +1,44 @@
-// The engine as C calls it: numbers and byte slices only. Each event reads the engine from the lent state, does its step, and lays the engine's bytes back.
-// A function returns 0, or the number of a refusal, and then no lent byte has changed.
+// The engine as C calls it: numbers and byte slices only. The lent state has a fixed part, which each event reads whole and lays back as far as it can change,
+// and behind it the tables, which the engine is lent as they stand. A function returns 0, or the number of a refusal, and then no lent byte has changed.
 mod answers;
 
 use answers::finish;
-use answers::finish_kept;
 use channels::AgreedMax;
-use channels::Held;
-use connection::Connection;
-use endpoint::Role;
+use connection::HandleAnswer;
 use engine::ConnectionEngine;
 use engine::NewEngine;
+use engine_bytes::EngineRead;
+use engine_bytes::FIXED_SIZE;
+use engine_bytes::ID;
+use engine_bytes::numbers::put_phase;
+use engine_bytes::numbers::role_number;
 use frame_encoder::IdleTimeOut;
 use layout::put_may;
-use local_open::Checked;
+use octets::number;
 use octets::put_number;
 ghost use mathlib.Core.Path.{_≡_};
 ghost use mathlib.Core.Bool.{not, _&&_};
-ghost use mathlib.Core.List.{[]};
-ghost use Prim.Native.Nat.{_+_, _*_};
+ghost use mathlib.Core.List.{List, []};
+ghost use Prim.Native.Nat.{ℕ, _+_, _*_, _≤_};
 ghost use lib.Dec.{leb};
+ghost use lib.ListN.{length};
 ghost use mathlib.Core.Option.{none, some};
 ghost use Rattle.octets.specs.Octets.{put};
 ghost use Rattle.layout.specs.Layout.{may, held};
-ghost use Rattle.channels.specs.Channels.{heldSays, agreedMaxSays};
-ghost use Rattle.endpoint.specs.Answers.{roleSays};
-ghost use Rattle.endpoint.specs.Bytes.{roleNumber};
+ghost use Rattle.channels.specs.Channels.{agreedMaxSays};
+ghost use Rattle.connection.specs.View.{handleSays};
+ghost use Rattle.engine.specs.Answers.{whole};
 ghost use Rattle.frame_encoder.specs.Answers.{errorText, idleSaid};
 ghost use Rattle.connection_model.specs.Connection as M;
 ghost use Rattle.engine_model.specs.Engine.{sendHeader, receiveHeader, sendOpen, incoming, closeOrder, allocate, deallocate, outgoing, tick, endOfInput, notDelivered};
 ghost use Rattle.hisproat.specs.Answers.{flagged, settingsOf, statusBytes, takenBytes, tiedBytes};
-ghost use Rattle.hisproat.specs.Promises.{Starts, PutsChannels, PutsStatus};
-ghost use Rattle.hisproat.specs.Crossing.{crossing, Crosses, made, Reports};
+ghost use Rattle.hisproat.specs.Promises.{Starts, IsId, PutsHandle, PutsStatus};
+ghost use Rattle.hisproat.specs.Crossing.{crossing, Crosses, Makes, Reports};
 
 // How many bytes an event's answer has, what is told of an engine, and a handle.
 pub const ANSWER_SIZE: usize = 42;
 
-pub const STATUS_SIZE: usize = 16;
+pub const STATUS_SIZE: usize = 19;
 
 pub const HANDLE_SIZE: usize = 5;
 
@@ -70,76 +73,75 @@ fn idle_of(has: u8, millis: u32) -> IdleTimeOut
     IdleTimeOut::Never
 }
 
-// Lays a new engine into the state, unless its settings were refused.
-fn started(new: NewEngine, state: &mut [u8]) -> u8
-    ensures { λ r. ⌜ Starts new (now (state .entry)) r (now (state .exit)) ⌝ }
+// The container-id in a state, no longer than there is room.
+fn container_id(state: &[u8]) -> &[u8]
+    requires { ⌜ 300 ≤ length (now state) ⌝ }
+    ensures { λ r. ⌜ IsId (now (state .entry)) (now r) ⌝ }
 {
-    let answer = new.answer;
-    let engine = new.engine;
-    match answer {
-        Checked::Taken => {
-            engine_bytes::write(engine, state);
+    let n = number(&state[42..44]);
+    if 255 < n {
+        return &state[..0];
+    }
+    let end = ID + (n as usize);
+    &state[ID..end]
+}
+
+// Lays the fixed part of a new engine into the state, unless it was refused.
+fn started(new: NewEngine, container_id: &[u8], state: &mut [u8]) -> u8
+    ensures { λ r. ⌜ Starts new (now («container_id» .entry)) (now (state .entry)) r (now (state .exit)) ⌝ }
+{
+    match new {
+        NewEngine::Made(engine) => {
+            engine_bytes::write_new(engine, container_id, state);
             0
         }
-        Checked::Refused(k) => k,
+        NewEngine::Refused(k) => k,
     }
 }
 
-// Lays a handle that may be absent into the answer.
-fn put_held(held: Held, answer: &mut [u8])
-    ensures { λ _. ⌜ now (answer .exit) ≡ put (now (answer .entry)) 0 (may 4 (heldSays held)) ⌝ }
+// Lays a handle that was looked up into the answer, or tells the refusal.
+fn put_handle(found: HandleAnswer, answer: &mut [u8]) -> u8
+    ensures { λ r. ⌜ PutsHandle (handleSays found) (now (answer .entry)) r (now (answer .exit)) ⌝ }
 {
-    match held {
-        Held::Handle(handle) => put_may(answer, 0, 4, true, handle as u64),
-        Held::Nothing => put_may(answer, 0, 4, false, 0),
-    }
-}
-
-fn role_number(role: Role) -> u8
-    ensures { λ r. ⌜ r ≡ roleNumber (roleSays role) ⌝ }
-{
-    match role {
-        Role::Dialler => 0,
-        Role::Listener => 1,
+    match found {
+        HandleAnswer::Handle(handle) => {
+            put_may(answer, 0, 4, true, handle as u64);
+            0
+        }
+        HandleAnswer::Nothing => {
+            put_may(answer, 0, 4, false, 0);
+            0
+        }
+        HandleAnswer::Refused(k) => k,
     }
 }
 
 // Lays the agreed channel-max into the answer.
 fn put_agreed(agreed: AgreedMax, answer: &mut [u8])
-    ensures { λ _. ⌜ now (answer .exit) ≡ put (now (answer .entry)) 12 (may 1 (agreedMaxSays agreed)) ⌝ }
+    ensures { λ _. ⌜ now (answer .exit) ≡ put (now (answer .entry)) 12 (may 2 (agreedMaxSays agreed)) ⌝ }
 {
     match agreed {
-        AgreedMax::Is(highest) => put_may(answer, 12, 1, true, highest as u64),
-        AgreedMax::Absent => put_may(answer, 12, 1, false, 0),
+        AgreedMax::Is(highest) => put_may(answer, 12, 2, true, highest as u64),
+        AgreedMax::Absent => put_may(answer, 12, 2, false, 0),
     }
-}
-
-// Lays the agreed channel-max, and how many channels are taken, into the answer.
-fn put_channels(connection: Connection, answer: &mut [u8])
-    ensures { λ _. ⌜ PutsChannels connection (now (answer .entry)) (now (answer .exit)) ⌝ }
-{
-    if answer.len() < STATUS_SIZE {
-        return;
-    }
-    put_agreed(connection.agreed_channel_max(), answer);
-    put_number(answer, 14, 2, connection.taken_count() as u64);
 }
 
 // Lays what an engine is into the answer.
 fn put_status(engine: ConnectionEngine, answer: &mut [u8])
-    ensures { λ _. ⌜ PutsStatus engine (now (answer .entry)) (now (answer .exit)) ⌝ }
+    ensures { λ _. ⌜ ((t id : List ℕ) → PutsStatus (whole engine t id) (now (answer .entry)) (now (answer .exit))) ⌝ }
 {
     if answer.len() < STATUS_SIZE {
         return;
     }
     let connection = engine.connection();
-    put_number(answer, 0, 1, role_number(connection.role()) as u64);
-    engine_bytes::put_phase(engine.phase(), answer, 1);
     let state = connection.state();
+    put_number(answer, 0, 1, role_number(connection.role()) as u64);
+    put_phase(engine.phase(), answer, 1);
     put_number(answer, 3, 1, state.number() as u64);
     put_number(answer, 4, 4, connection.reading_limit() as u64);
     put_number(answer, 8, 4, connection.writing_limit() as u64);
-    put_channels(connection, answer);
+    put_agreed(connection.agreed_channel_max(), answer);
+    put_number(answer, 15, 4, connection.taken_count() as u64);
 }
 
 // Makes a fresh engine of the one that dials in the lent state.
@@ -152,14 +154,20 @@ pub extern "C" fn hisproat_dialler(
     has_idle_time_out: u8,
     idle_time_out: u32,
 ) -> u8
-    ensures { λ r. ⌜ record { returned = r; state = now (state .exit) } ≡ made M.dialler (settingsOf (now («container_id» .entry)) «max_frame_size» «channel_max» «has_idle_time_out» «idle_time_out») (now (state .entry)) ⌝ }
+    ensures { λ r. ⌜ Makes M.dialler (settingsOf (now («container_id» .entry)) «max_frame_size» «channel_max» «has_idle_time_out» «idle_time_out») (now (state .entry)) (record { returned = r; state = now (state .exit) }) ⌝ }
 {
-    if state.len() != engine_bytes::STATE_SIZE {
+    if state.len() < FIXED_SIZE {
         return BROKEN;
     }
     let idle = idle_of(has_idle_time_out, idle_time_out);
-    let new = ConnectionEngine::dialler(container_id, max_frame_size, channel_max, idle);
-    started(new, state)
+    let new = ConnectionEngine::dialler(
+        container_id,
+        max_frame_size,
+        channel_max,
+        idle,
+        &mut state[FIXED_SIZE..],
+    );
+    started(new, container_id, state)
 }
 
 // Makes a fresh engine of the one that listens in the lent state.
@@ -172,14 +180,20 @@ pub extern "C" fn hisproat_listener(
     has_idle_time_out: u8,
     idle_time_out: u32,
 ) -> u8
-    ensures { λ r. ⌜ record { returned = r; state = now (state .exit) } ≡ made M.listener (settingsOf (now («container_id» .entry)) «max_frame_size» «channel_max» «has_idle_time_out» «idle_time_out») (now (state .entry)) ⌝ }
+    ensures { λ r. ⌜ Makes M.listener (settingsOf (now («container_id» .entry)) «max_frame_size» «channel_max» «has_idle_time_out» «idle_time_out») (now (state .entry)) (record { returned = r; state = now (state .exit) }) ⌝ }
 {
-    if state.len() != engine_bytes::STATE_SIZE {
+    if state.len() < FIXED_SIZE {
         return BROKEN;
     }
     let idle = idle_of(has_idle_time_out, idle_time_out);
-    let new = ConnectionEngine::listener(container_id, max_frame_size, channel_max, idle);
-    started(new, state)
+    let new = ConnectionEngine::listener(
+        container_id,
+        max_frame_size,
+        channel_max,
+        idle,
+        &mut state[FIXED_SIZE..],
+    );
+    started(new, container_id, state)
 }
 
 // Writes the protocol header.
@@ -190,11 +204,9 @@ pub extern "C" fn hisproat_send_header(state: &mut [u8], output: &mut [u8], answ
     if lacks_room(answer.len(), output.len(), 0) {
         return NO_ROOM;
     }
-    let read = engine_bytes::from_bytes(state);
-    if !read.fine {
+    let EngineRead::Is(engine) = engine_bytes::from_bytes(state) else {
         return BROKEN;
-    }
-    let engine = read.engine;
+    };
     let header = engine.send_header(output);
     let wrote = header.answer;
     let after = header.engine;
@@ -209,11 +221,9 @@ pub extern "C" fn hisproat_receive_header(state: &mut [u8], input: &[u8], answer
     if answer.len() < ANSWER_SIZE {
         return NO_ROOM;
     }
-    let read = engine_bytes::from_bytes(state);
-    if !read.fine {
+    let EngineRead::Is(engine) = engine_bytes::from_bytes(state) else {
         return BROKEN;
-    }
-    let engine = read.engine;
+    };
     let came = engine.receive_header(input);
     let answered = came.answer;
     let after = came.engine;
@@ -228,12 +238,10 @@ pub extern "C" fn hisproat_send_open(state: &mut [u8], output: &mut [u8], answer
     if lacks_room(answer.len(), output.len(), 0) {
         return NO_ROOM;
     }
-    let read = engine_bytes::from_bytes(state);
-    if !read.fine {
+    let EngineRead::Is(engine) = engine_bytes::from_bytes(state) else {
         return BROKEN;
-    }
-    let engine = read.engine;
-    let opening = engine.send_open(output);
+    };
+    let opening = engine.send_open(container_id(state), output);
     let opened = opening.answer;
     let after = opening.engine;
     finish(answers::opening_sent(opened), after, state, answer)
@@ -254,18 +262,15 @@ pub extern "C" fn hisproat_on_incoming(
     if lacks_room(answer.len(), output.len(), waiting.len()) {
         return NO_ROOM;
     }
-    let read = engine_bytes::from_bytes(state);
-    if !read.fine {
+    let EngineRead::Is(engine) = engine_bytes::from_bytes(state) else {
         return BROKEN;
-    }
-    let engine = read.engine;
-    let taken = engine.on_incoming(frame, spare, waiting, output);
+    };
+    let taken = engine.on_incoming(&mut state[FIXED_SIZE..], frame, spare, waiting, output);
     let running = taken.running;
     let answered = taken.answer;
     let after = taken.engine;
-    let kept = answers::passed_on(answered);
     let received = answers::received(running, taken.consumed, taken.written, answered);
-    finish_kept(kept, received, after, state, answer)
+    finish(received, after, state, answer)
 }
 
 // Sends the session frames that wait, and then a Close.
@@ -281,12 +286,10 @@ pub extern "C" fn hisproat_on_close(
     if lacks_room(answer.len(), output.len(), waiting.len()) {
         return NO_ROOM;
     }
-    let read = engine_bytes::from_bytes(state);
-    if !read.fine {
+    let EngineRead::Is(engine) = engine_bytes::from_bytes(state) else {
         return BROKEN;
-    }
-    let engine = read.engine;
-    let closing = engine.on_close(waiting, output);
+    };
+    let closing = engine.on_close(&mut state[FIXED_SIZE..], waiting, output);
     let running = closing.running;
     let answered = closing.answer;
     let after = closing.engine;
@@ -310,12 +313,11 @@ pub extern "C" fn hisproat_on_close_with_error(
     if lacks_room(answer.len(), output.len(), waiting.len()) {
         return NO_ROOM;
     }
-    let read = engine_bytes::from_bytes(state);
-    if !read.fine {
+    let EngineRead::Is(engine) = engine_bytes::from_bytes(state) else {
         return BROKEN;
-    }
-    let engine = read.engine;
+    };
     let order = engine.on_close_with_error(
+        &mut state[FIXED_SIZE..],
         condition,
         is_set(has_description),
         description,
@@ -337,12 +339,10 @@ pub extern "C" fn hisproat_on_allocate(state: &mut [u8], handle: u32, answer: &m
     if answer.len() < ANSWER_SIZE {
         return NO_ROOM;
     }
-    let read = engine_bytes::from_bytes(state);
-    if !read.fine {
+    let EngineRead::Is(engine) = engine_bytes::from_bytes(state) else {
         return BROKEN;
-    }
-    let engine = read.engine;
-    let given = engine.on_allocate(handle);
+    };
+    let given = engine.on_allocate(&mut state[FIXED_SIZE..], handle);
     let running = given.running;
     let answered = given.answer;
     let after = given.engine;
@@ -357,12 +357,10 @@ pub extern "C" fn hisproat_on_deallocate(state: &mut [u8], channel: u16, answer:
     if answer.len() < ANSWER_SIZE {
         return NO_ROOM;
     }
-    let read = engine_bytes::from_bytes(state);
-    if !read.fine {
+    let EngineRead::Is(engine) = engine_bytes::from_bytes(state) else {
         return BROKEN;
-    }
-    let engine = read.engine;
-    let freed = engine.on_deallocate(channel);
+    };
+    let freed = engine.on_deallocate(&mut state[FIXED_SIZE..], channel);
     let running = freed.running;
     let answered = freed.answer;
     let after = freed.engine;
@@ -387,19 +385,15 @@ pub extern "C" fn hisproat_on_outgoing(
     if lacks_room(answer.len(), output.len(), 0) {
         return NO_ROOM;
     }
-    let read = engine_bytes::from_bytes(state);
-    if !read.fine {
+    let EngineRead::Is(engine) = engine_bytes::from_bytes(state) else {
         return BROKEN;
-    }
-    let engine = read.engine;
-    let connection = engine.connection();
-    let sent = engine.on_outgoing_session_frame(frame, output);
+    };
+    let sent = engine.on_outgoing_session_frame(&mut state[FIXED_SIZE..], frame, output);
     let running = sent.running;
     let answered = sent.answer;
     let after = sent.engine;
-    let kept = answers::sent_on(connection.role(), running, answered);
     let done = answers::sent(running, sent.written, answered);
-    finish_kept(kept, done, after, state, answer)
+    finish(done, after, state, answer)
 }
 
 // It is time for a heartbeat.
@@ -410,11 +404,9 @@ pub extern "C" fn hisproat_on_tick(state: &mut [u8], output: &mut [u8], answer: 
     if lacks_room(answer.len(), output.len(), 0) {
         return NO_ROOM;
     }
-    let read = engine_bytes::from_bytes(state);
-    if !read.fine {
+    let EngineRead::Is(engine) = engine_bytes::from_bytes(state) else {
         return BROKEN;
-    }
-    let engine = read.engine;
+    };
     let beat = engine.on_heartbeat(output);
     let running = beat.running;
     let answered = beat.answer;
@@ -434,11 +426,9 @@ pub extern "C" fn hisproat_on_end_of_input(
     if lacks_room(answer.len(), output.len(), 0) {
         return NO_ROOM;
     }
-    let read = engine_bytes::from_bytes(state);
-    if !read.fine {
+    let EngineRead::Is(engine) = engine_bytes::from_bytes(state) else {
         return BROKEN;
-    }
-    let engine = read.engine;
+    };
     let ended = engine.on_end_of_input(output);
     let running = ended.running;
     let after = ended.engine;
@@ -459,11 +449,9 @@ pub extern "C" fn hisproat_on_not_delivered(
     if lacks_room(answer.len(), output.len(), 0) {
         return NO_ROOM;
     }
-    let read = engine_bytes::from_bytes(state);
-    if !read.fine {
+    let EngineRead::Is(engine) = engine_bytes::from_bytes(state) else {
         return BROKEN;
-    }
-    let engine = read.engine;
+    };
     let told = engine.on_not_delivered(is_set(new_session), output);
     let running = told.running;
     let after = told.engine;
@@ -474,16 +462,14 @@ pub extern "C" fn hisproat_on_not_delivered(
 // Tells role, phase, outcome, state, limits, and how many channels are taken.
 #[no_mangle]
 pub extern "C" fn hisproat_status(state: &[u8], answer: &mut [u8]) -> u8
-    ensures { λ r. ⌜ Reports 16 statusBytes (now (state .entry)) (now (answer .entry)) (record { returned = r; answer = now (answer .exit) }) ⌝ }
+    ensures { λ r. ⌜ Reports 19 statusBytes (now (state .entry)) (now (answer .entry)) (record { returned = r; answer = now (answer .exit) }) ⌝ }
 {
     if answer.len() < STATUS_SIZE {
         return NO_ROOM;
     }
-    let read = engine_bytes::from_bytes(state);
-    if !read.fine {
+    let EngineRead::Is(engine) = engine_bytes::from_bytes(state) else {
         return BROKEN;
-    }
-    let engine = read.engine;
+    };
     put_status(engine, answer);
     0
 }
@@ -496,14 +482,11 @@ pub extern "C" fn hisproat_handle_at(state: &[u8], channel: u16, answer: &mut [u
     if answer.len() < HANDLE_SIZE {
         return NO_ROOM;
     }
-    let read = engine_bytes::from_bytes(state);
-    if !read.fine {
+    let EngineRead::Is(engine) = engine_bytes::from_bytes(state) else {
         return BROKEN;
-    }
-    let engine = read.engine;
+    };
     let connection = engine.connection();
-    put_held(connection.handle_at(channel), answer);
-    0
+    put_handle(connection.handle_at(&state[FIXED_SIZE..], channel), answer)
 }
 
 // Tells the handle that an incoming channel is tied to.
@@ -514,12 +497,12 @@ pub extern "C" fn hisproat_tied_handle(state: &[u8], channel: u16, answer: &mut 
     if answer.len() < HANDLE_SIZE {
         return NO_ROOM;
     }
-    let read = engine_bytes::from_bytes(state);
-    if !read.fine {
+    let EngineRead::Is(engine) = engine_bytes::from_bytes(state) else {
         return BROKEN;
-    }
-    let engine = read.engine;
+    };
     let connection = engine.connection();
-    put_held(connection.tied_handle(channel), answer);
-    0
+    put_handle(
+        connection.tied_handle(&state[FIXED_SIZE..], channel),
+        answer,
+    )
 }

@@ -1,13 +1,13 @@
 // The lines: whose call it is, the call, the state afterwards, what the call was lent, and the answer.
 use channels::AgreedMax;
-use channels::Held;
 use connection::AllocateAnswer;
+use connection::DeallocateAnswer;
+use connection::HandleAnswer;
 use connection::HeaderAnswer;
 use connection::TickAnswer;
 use connection_state::ConnectionState;
 use endpoint::FrameAnswer;
 use libc::STDOUT_FILENO;
-use local_open::Checked;
 use octets::Written;
 use words::part;
 use words::word;
@@ -120,10 +120,10 @@ pub(crate) fn lent_frame(s: &[u8]) {
     } else {
         performative(found);
     }
-    lent(b" on ", wide(s[7]));
+    lent(b" on ", octets::number(part(s, 6, 8)));
 }
 
-fn refused(k: u8) {
+pub(crate) fn refused(k: u8) {
     counted(b"refused ", wide(k));
 }
 
@@ -131,13 +131,6 @@ fn counted(text: &[u8], n: u64) {
     print(text);
     number(n);
     print(b"\n");
-}
-
-pub(crate) fn checked(answer: Checked) {
-    match answer {
-        Checked::Taken => print(b"settings taken\n"),
-        Checked::Refused(k) => refused(k),
-    }
 }
 
 pub(crate) fn written(answer: Written) {
@@ -170,10 +163,10 @@ pub(crate) fn allocated(answer: AllocateAnswer) {
     }
 }
 
-pub(crate) fn freed(answer: Held) {
+pub(crate) fn freed(answer: DeallocateAnswer) {
     match answer {
-        Held::Handle(n) => counted(b"freed handle ", n as u64),
-        Held::Nothing => refused(26),
+        DeallocateAnswer::Freed(n) => counted(b"freed handle ", n as u64),
+        DeallocateAnswer::Refused(k) => refused(k),
     }
 }
 
@@ -261,14 +254,15 @@ pub(crate) fn limits(reading: u32, writing: u32, agreed: AgreedMax) {
 }
 
 // A channel and its handle; nothing where it has none.
-pub(crate) fn entry(channel: u16, held: Held) {
-    match held {
-        Held::Handle(n) => {
+pub(crate) fn entry(channel: u16, found: HandleAnswer) {
+    match found {
+        HandleAnswer::Handle(n) => {
             print(b" ");
             number(channel as u64);
             print(b":");
             number(n as u64);
         }
-        Held::Nothing => {}
+        HandleAnswer::Nothing => {}
+        HandleAnswer::Refused(k) => refused(k),
     }
 }

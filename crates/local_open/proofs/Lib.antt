@@ -1,5 +1,2 @@
 -- What the proofs of several functions, and of the crates above, use.
 pub mod Laws
-pub mod Bytes
-pub mod Writing
-pub mod Reading

@@ -1,4 +1,1 @@
 pub mod Settings
-pub mod Bytes
-pub mod Promises
-pub mod Reading

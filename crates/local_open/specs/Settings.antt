@@ -1,38 +1,28 @@
--- The settings of a connection: which are taken, and what stands for those that are not (document 01, "The connection's calls").
+-- The settings of a connection: which are taken (documents 01, "The connection's calls", and 02, wish 9).
 -- Assumes nothing: these are definitions.
 use Prim.Native.Nat.{ℕ}
-use mathlib.Core.Bool.{Bool, cond}
-use mathlib.Core.List.{[]}
-use mathlib.Core.Option.{none}
-use lib.ListN.{take}
+use mathlib.Core.Bool.{Bool}
+use mathlib.Core.List.{List}
 use Rattle.octets.specs.Verdict.{Verdict, refuse, accept, require}
 use Rattle.frame_encoder.specs.Frames.{Settings, settingsOk}
 use Rattle.frame_encoder.specs.Answers.{settings}
 use Rattle.local_open.specs.declared.LocalOpen.{LocalOpen}
-use Rattle.local_open.specs.declared.Checked.{Checked}
-use Rattle.local_open.specs.declared.Checked.the-variants.{Taken, Refused}
+use Rattle.local_open.specs.declared.NewOpen.{NewOpen}
+use Rattle.local_open.specs.declared.NewOpen.the-variants.{Taken, Refused}
 
 -- within their limits
 abbrev pub allowed : Settings → Bool
 allowed S = settingsOk (S .containerId) (S .maxFrameSize) (S .channelMax)
 
 -- 8 for settings beyond their limits
-abbrev pub checked : Settings → Verdict (Unit {0})
-checked S = require 8 (allowed S) (λ _. accept tt)
+abbrev pub checked : Settings → Verdict Settings
+checked S = require 8 (allowed S) (λ _. accept S)
 
-abbrev pub smallest : Settings
-smallest = record { containerId = []; maxFrameSize = 512; channelMax = 0; idleTimeOut = none }
+-- ---- what the values stand for, with the container-id
 
--- settings, or the smallest where they are refused
-abbrev pub orSmallest : Settings → Settings
-orSmallest S = cond (allowed S) S smallest
+abbrev pub openSays : List ℕ → LocalOpen → Settings
+openSays id o = settings id (o .«max_frame_size») (o .«channel_max») (o .«idle_time_out»)
 
--- ---- what the values stand for
-
-abbrev pub checkSays : Checked → Verdict (Unit {0})
-checkSays Taken = accept tt
-checkSays (Refused k) = refuse k
-
--- the container-id is as many bytes as are counted
-abbrev pub openSays : LocalOpen → Settings
-openSays o = settings (take (o .«id_len») (o .«container_id»)) (o .«max_frame_size») (o .«channel_max») (o .«idle_time_out»)
+abbrev pub newSays : List ℕ → NewOpen → Verdict Settings
+newSays id (Taken o) = accept (openSays id o)
+newSays id (Refused k) = refuse k

@@ -16,7 +16,7 @@ use Rattle.text.specs.Ascii.{ascii}
 use Rattle.text.specs.Utf8.{tail, inRange, starts, utf8}
 use Rattle.text.specs.Character.{charLength, followers, followed}
 use Rattle.text.proofs.Rows.{starts-in, char-in, no-character, a-character}
-use Rattle.text.proofs.Laws.{utf8-empty, ascii-empty}
+use Rattle.text.proofs.Laws.{utf8-empty, ascii-empty, ascii-is-utf8}
 
 -- ---- a range
 
@@ -96,14 +96,27 @@ text-ends s at h inv = sym (inv ∙ rw (drop-of-length-le s h) utf8-empty)
 
 -- ---- a loop over octets
 
-module _ (s : List ℕ) (i : ℕ) (inv : ascii s ≡ ascii (drop i s)) where
-  pub ascii-stops : i < length s → 127 < getD s i 0 → false ≡ ascii s
-  unfolding ascii
-  ascii-stops h b = sym (inv ∙ rw (drop-cons s i 0 h, le-ltb (getD s i 0) 128 b))
+-- a text that is ASCII is UTF-8
+pub ascii-told : (s : List ℕ) (b : Bool) → b ≡ ascii s → b ≡ true → true ≡ utf8 s
+ascii-told s b e q = sym (ascii-is-utf8 s (sym e ∙ q))
 
-  pub ascii-goes-on : i < length s → getD s i 0 ≤ 127 → ascii s ≡ ascii (drop (i + 1) s)
+-- s is ASCII where what was passed is and what is left of it from i on
+module _ (s : List ℕ) (i : ℕ) (fine : Bool) (inv : ascii s ≡ (fine && ascii (drop i s))) where
+  pub ascii-stops : (later : Bool) → later ≡ false → i < length s → 127 < getD s i 0 → ascii s ≡ (later && ascii (drop (i + 1) s))
   unfolding ascii
-  ascii-goes-on h b = let l : getD s i 0 < 128 = omega arith in inv ∙ rw (drop-cons s i 0 h, lt-ltb (getD s i 0) 128 l, add-one)
+  ascii-stops later e h b = inv ∙ rw (e, drop-cons s i 0 h, le-ltb (getD s i 0) 128 b) (never fine)
+    where
+      never : (x : Bool) → (x && false) ≡ false
+      never true = refl
+      never false = refl
 
-  pub ascii-ends : length s ≤ i → true ≡ ascii s
-  ascii-ends h = sym (inv ∙ rw (drop-of-length-le s h) ascii-empty)
+  pub ascii-goes-on : (later : Bool) → later ≡ fine → i < length s → getD s i 0 ≤ 127 → ascii s ≡ (later && ascii (drop (i + 1) s))
+  unfolding ascii
+  ascii-goes-on later e h b = let l : getD s i 0 < 128 = omega arith in inv ∙ rw (e, drop-cons s i 0 h, lt-ltb (getD s i 0) 128 l, add-one)
+
+  pub ascii-ends : length s ≤ i → fine ≡ ascii s
+  ascii-ends h = sym (inv ∙ rw (drop-of-length-le s h, ascii-empty) (alone fine))
+    where
+      alone : (x : Bool) → (x && true) ≡ x
+      alone true = refl
+      alone false = refl

@@ -1,10 +1,19 @@
 //! The port through its C interface (include/hisproat.h).
 
-use crate::events::{Event, Port, Reply, Status};
+use crate::events::{Event, Held, Port, Reply, Status};
 use fe2o3_amqp::auth::{Role, Settings};
 
-const STATE: usize = 3102;
+/// The fixed part of a state, and a channel's place in the tables after it (crates/engine_bytes/specs/Bytes.antt, crates/channels/specs/Places.antt).
+const FIXED: usize = 300;
+const PLACE: usize = 28;
+/// The link of a taken channel.
+const TAKEN: u32 = 65536;
 const ANSWER: usize = 42;
+const STATUS: usize = 19;
+/// What lent bytes are before, the tables of a new engine too.
+const FILL: u8 = 0xa5;
+/// So many bytes stand after a state and are not lent.
+const PAST: usize = 16;
 
 extern "C" {
     fn hisproat_dialler(
@@ -96,12 +105,17 @@ fn number(bytes: &[u8]) -> u64 {
 
 #[derive(Clone)]
 pub struct Archive {
+    /// The lent bytes, and those after them.
     state: Vec<u8>,
+    /// The same before the last event, where it is watched.
+    before: Vec<u8>,
+    watched: bool,
 }
 
 impl Archive {
     pub fn new(role: Role, settings: &Settings) -> Self {
-        let mut state = vec![0; STATE];
+        let size = FIXED + PLACE * (settings.channel_max as usize + 1);
+        let mut state = vec![FILL; size + PAST];
         let make = match role {
             Role::Dialler => hisproat_dialler,
             Role::Listener => hisproat_listener,
@@ -111,7 +125,7 @@ impl Archive {
         let refused = unsafe {
             make(
                 state.as_mut_ptr(),
-                STATE,
+                size,
                 id.as_ptr(),
                 id.len(),
                 settings.max_frame_size,
@@ -121,12 +135,17 @@ impl Archive {
             )
         };
         assert_eq!(refused, 0, "settings within their limits");
-        Archive { state }
+        Archive { state, before: Vec::new(), watched: true }
+    }
+
+    /// How many bytes are lent: no more than an engine needs.
+    fn size(&self) -> usize {
+        self.state.len() - PAST
     }
 
     fn call(&mut self, event: &Event, output: &mut [u8], answer: &mut [u8]) -> u8 {
         let (s, o, a) = (self.state.as_mut_ptr(), output.as_mut_ptr(), answer.as_mut_ptr());
-        let (n, on, an) = (STATE, output.len(), answer.len());
+        let (n, on, an) = (self.size(), output.len(), answer.len());
         // The slices are whole and apart from each other.
         unsafe {
             match event {
@@ -155,9 +174,20 @@ impl Archive {
 
     fn found(&self, read: unsafe extern "C" fn(*const u8, usize, u16, *mut u8, usize) -> u8, channel: u16) -> Option<u32> {
         let mut answer = [0; 5];
-        let refused = unsafe { read(self.state.as_ptr(), STATE, channel, answer.as_mut_ptr(), 5) };
+        let refused = unsafe { read(self.state.as_ptr(), self.size(), channel, answer.as_mut_ptr(), 5) };
         assert_eq!(refused, 0, "a sound state");
         (answer[0] != 0).then(|| number(&answer[1..]) as u32)
+    }
+
+    /// A number of the fixed part.
+    fn at(&self, from: usize, count: usize) -> usize {
+        number(&self.state[from..from + count]) as usize
+    }
+
+    /// A field of a channel's place.
+    fn field(&self, channel: usize, field: usize) -> u32 {
+        let from = FIXED + PLACE * channel + 4 * field;
+        u32::from_be_bytes(self.state[from..from + 4].try_into().unwrap())
     }
 }
 
@@ -171,18 +201,21 @@ fn waiting_len(event: &Event) -> usize {
 
 impl Port for Archive {
     fn event(&mut self, event: &Event) -> Reply {
-        let before = self.state.clone();
-        let mut output = vec![0xa5; 16384 + 2 * waiting_len(event)];
-        let mut answer = [0xa5; ANSWER];
+        if self.watched {
+            self.before.clone_from(&self.state);
+        }
+        let mut output = vec![FILL; 16384 + 2 * waiting_len(event)];
+        let mut answer = [FILL; ANSWER];
         let refused = self.call(event, &mut output, &mut answer);
         if refused != 0 {
-            let untouched = self.state == before && output.iter().chain(&answer).all(|byte| *byte == 0xa5);
+            let untouched = (!self.watched || self.state == self.before) && output.iter().chain(&answer).all(|byte| *byte == FILL);
             assert!(untouched, "a refusal alters nothing");
             return Reply { refused, ..Reply::default() };
         }
         let at = |from: usize, count: usize| number(&answer[from..from + count]) as usize;
         let written = at(34, 8);
-        assert!(output[written..].iter().all(|byte| *byte == 0xa5), "output past what was written is untouched");
+        assert!(output[written..].iter().all(|byte| *byte == FILL), "output past what was written is untouched");
+        assert_eq!(self.state[self.size()..], [FILL; PAST], "bytes past the state are untouched");
         output.truncate(written);
         Reply {
             refused: 0,
@@ -199,8 +232,8 @@ impl Port for Archive {
     }
 
     fn status(&self) -> Status {
-        let mut answer = [0; 16];
-        let refused = unsafe { hisproat_status(self.state.as_ptr(), STATE, answer.as_mut_ptr(), 16) };
+        let mut answer = [0; STATUS];
+        let refused = unsafe { hisproat_status(self.state.as_ptr(), self.size(), answer.as_mut_ptr(), STATUS) };
         assert_eq!(refused, 0, "a sound state");
         Status {
             phase: answer[1],
@@ -208,8 +241,8 @@ impl Port for Archive {
             state: answer[3],
             reading_limit: number(&answer[4..8]) as usize,
             writing_limit: number(&answer[8..12]) as usize,
-            agreed: (answer[12] != 0).then_some(answer[13]),
-            taken: number(&answer[14..16]) as usize,
+            agreed: (answer[12] != 0).then(|| number(&answer[13..15]) as u16),
+            taken: number(&answer[15..]) as usize,
         }
     }
 
@@ -221,16 +254,37 @@ impl Port for Archive {
         self.found(hisproat_tied_handle, channel)
     }
 
-    fn hand_out(&self) -> Option<Vec<u16>> {
-        let mut copy = self.clone();
+    /// Read from the state's bytes.
+    fn held(&self) -> Held {
+        assert_eq!(&self.state[..4], b"HSP2", "a state of this layout");
+        let (used, head, freed, most) = (self.at(28, 4), self.at(32, 4), self.at(36, 4), self.at(40, 2));
+        let places = (self.size() - FIXED) / PLACE;
+        let with = |channel: usize, field: usize| (channel as u16, self.field(channel, field));
+        let taken = (0..used).filter(|channel| self.field(*channel, 0) == TAKEN).map(|channel| with(channel, 1));
+        let ties = (0..places).filter(|channel| self.field(*channel, 3) != 0).map(|channel| with(channel, 4));
+        let next = |channel: usize| (channel < used).then_some(channel);
+        let freed = std::iter::successors(next(head), |channel| next(self.field(*channel, 0) as usize)).take(freed);
+        let hand_out = (self.state[19] != 0).then(|| freed.chain(used..=most).map(|channel| channel as u16).collect());
+        Held { taken: taken.collect(), ties: ties.collect(), hand_out }
+    }
+
+    /// What a copy gives.
+    fn given(&self) -> Option<Vec<u16>> {
+        let mut copy = self.state.clone();
+        let mut answer = [0; ANSWER];
         let mut channels = Vec::new();
         loop {
-            let reply = copy.event(&Event::Allocate(0));
-            match reply.refused {
-                0 => channels.push(reply.channel),
+            let refused = unsafe { hisproat_on_allocate(copy.as_mut_ptr(), self.size(), 0, answer.as_mut_ptr(), ANSWER) };
+            match refused {
+                0 => channels.push(number(&answer[4..6]) as u16),
                 23 => return Some(channels),
                 _ => return None,
             }
+            assert!(channels.len() <= TAKEN as usize, "no more channels than there are numbers");
         }
+    }
+
+    fn watch(&mut self, watched: bool) {
+        self.watched = watched;
     }
 }

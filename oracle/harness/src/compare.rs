@@ -2,6 +2,8 @@
 //!
 //! Whether a rule is due is told from the event and from what was held before it, and not from what the port answers: a port that does as the Rust does where it is
 //! to be built otherwise is a finding too. What a rule does not name is compared as always.
+//!
+//! No rule has a limit of its own: where the local channel-max is 65,535 no channel is above it, so high-channel is never due, and a 7 of the port's is a finding.
 
 use std::collections::HashSet;
 use std::fmt;
@@ -84,7 +86,7 @@ pub struct Pair<P> {
     pub port: P,
     role: Role,
     settings: Settings,
-    /// The highest channel that is looked at.
+    /// The highest channel that is looked at: one above the local channel-max, where there is one.
     top: u16,
     /// An Open came where the Rust's limits cannot be reached: those that are due.
     limits: Option<(usize, usize)>,
@@ -193,6 +195,14 @@ fn close_in(event: &Event) -> Option<bool> {
     }
 }
 
+/// What is shown of an account: of many channels the first ones.
+fn in_short(account: &Account) -> Account {
+    let mut account = account.clone();
+    account.taken.truncate(40);
+    account.ties.truncate(40);
+    account
+}
+
 fn hold(is: bool, what: &str) -> Result<(), String> {
     is.then_some(()).ok_or_else(|| what.to_string())
 }
@@ -204,7 +214,7 @@ impl<P: Port> Pair<P> {
             port,
             role,
             settings: settings.clone(),
-            top: settings.channel_max + 1,
+            top: settings.channel_max.saturating_add(1),
             limits: None,
             kept: 0,
             steps: 0,
@@ -231,17 +241,28 @@ impl<P: Port> Pair<P> {
 
     /// Does an event on both sides, and compares what they answer and what they hold.
     pub fn step(&mut self, event: &Event) -> Result<Step, String> {
-        self.take(event, true)
+        self.take(event, self.rust.account(), true)
     }
 
     /// The same without a look at what they hold, for lists that were compared before.
     pub fn pass(&mut self, event: &Event) -> Result<Step, String> {
-        self.take(event, false)
+        self.take(event, self.rust.account(), false)
     }
 
-    fn take(&mut self, event: &Event, look: bool) -> Result<Step, String> {
+    /// The same where neither side is watched. The channel that the event names is told with its handle, if it is taken.
+    pub fn swift(&mut self, event: &Event, named: &[(u16, u32)]) -> Result<Step, String> {
+        let before = Account { taken: named.to_vec(), ..self.rust.account() };
+        self.take(event, before, false)
+    }
+
+    /// Whether both sides are looked at: the Rust shows its channels, and the port's bytes are compared after a refusal.
+    pub fn watch(&mut self, watched: bool) {
+        self.rust.show_channels(watched);
+        self.port.watch(watched);
+    }
+
+    fn take(&mut self, event: &Event, before: Account, look: bool) -> Result<Step, String> {
         let settings = self.settings.clone();
-        let before = self.rust.account();
         let port_before = self.port.status();
         let answer = self.rust.event(event.rust());
         let reply = self.port.event(event);
@@ -255,8 +276,9 @@ impl<P: Port> Pair<P> {
         self.backs.extend(back.map(|back| (self.steps, back)));
         self.steps += 1;
         if look && !(step.ends && step.held.is_none()) {
-            let all = step.ends || self.port.status().phase == 2 || self.steps % 16 == 0;
-            self.accounts(&both, &step, all).map_err(|what| self.finding(&both, &what))?;
+            let all = step.ends || self.port.status().phase == 2 || self.steps % self.often() == 0;
+            let account = step.held.clone().unwrap_or_else(|| self.rust.account());
+            self.accounts(&account, self.outcome(&both), all, step.ends).map_err(|what| self.finding(&both, &what))?;
         }
         Ok(step)
     }
@@ -274,9 +296,9 @@ impl<P: Port> Pair<P> {
                 hex(&answer.written)
             ),
             format!("the port  {reply}"),
-            format!("before    {:?}", both.before),
+            format!("before    {:?}", in_short(&both.before)),
             format!("          {:?}", both.port_before),
-            format!("now       {:?}", self.rust.account()),
+            format!("now       {:?}", in_short(&self.rust.account())),
             format!("          {:?}", self.port.status()),
         ];
         lines.join("\n  ")
@@ -319,50 +341,87 @@ impl<P: Port> Pair<P> {
         Ok(())
     }
 
-    /// With few channels all of them are looked at each time. Of many, those that the Rust has taken or tied; all of them only at times.
-    fn accounts(&self, both: &Both, step: &Step, all: bool) -> Result<(), String> {
-        let (account, status) = (step.held.clone().unwrap_or_else(|| self.rust.account()), self.port.status());
-        let all = all || self.top <= 8;
+    /// After how many events all channels are looked at, and not only those that the Rust has taken or tied and a sample.
+    fn often(&self) -> usize {
+        match self.top {
+            0..=8 => 1,
+            9..=256 => 16,
+            _ => 128,
+        }
+    }
+
+    /// A few channels: those where a number gets one more bit or byte, and some that differ from event to event.
+    fn sample(&self) -> impl Iterator<Item = u16> + '_ {
+        let spread = |at: usize| ((self.steps * 8 + at) as u64).wrapping_mul(0x9e37_79b9_7f4a_7c15) >> 32;
+        let some = (0..8).map(move |at| (spread(at) % (self.top as u64 + 1)) as u16);
+        let agreed = self.port.status().agreed.unwrap_or(0);
+        let edges = [0, 127, 128, 255, 256, 32767, 32768, agreed, agreed.saturating_add(1), self.top - 1, self.top];
+        edges.into_iter().filter(|channel| *channel <= self.top).chain(some)
+    }
+
+    /// All that both sides hold: at the end of a list that no event has ended, or of a stage.
+    pub fn whole(&self) -> Result<(), String> {
+        let status = self.port.status();
+        let outcome = if status.phase == 0 { 0 } else { self.kept };
+        let told =
+            |what| format!("{what}\n  after the last event\n  now       {:?}\n            {status:?}", in_short(&self.rust.account()));
+        self.accounts(&self.rust.account(), outcome, true, false).map_err(told)
+    }
+
+    /// What the port holds is what the Rust holds, or what a rule says instead: of all channels, or of some.
+    fn accounts(&self, account: &Account, outcome: u8, all: bool, ends: bool) -> Result<(), String> {
+        let status = self.port.status();
         let channels: Vec<u16> = match all {
             true => (0..=self.top).collect(),
-            false => account.taken.iter().chain(&account.ties).map(|(channel, _)| *channel).collect(),
+            false => account.taken.iter().chain(&account.ties).map(|(channel, _)| *channel).chain(self.sample()).collect(),
         };
         let mut wrong = Vec::new();
         let mut hold = |equal: bool, what: &str| {
-            if !equal {
+            if !equal && wrong.len() < 12 {
                 wrong.push(what.to_string());
             }
         };
         hold(phase_number(account.phase) == status.phase, "phase");
         hold(account.state == status.state, "state");
-        hold(status.outcome == self.outcome(both, &status), "outcome");
+        hold(status.outcome == outcome, "outcome");
         hold(account.agreed == status.agreed.is_some(), "whether agreed");
-        hold(status.agreed.map_or(true, |agreed| account.channel_max == agreed as u16), "agreed channel-max");
+        hold(status.agreed.map_or(true, |agreed| account.channel_max == agreed), "agreed channel-max");
         let limits = self.limits.unwrap_or((account.reading_limit, account.writing_limit));
         hold(limits.0 == status.reading_limit, "reading limit");
         hold(limits.1 == status.writing_limit, "writing limit");
         hold(account.taken.len() == status.taken, "number of taken channels");
         for channel in channels {
-            let at = |list: &[(u16, u32)]| list.iter().find(|(at, _)| *at == channel).map(|(_, handle)| *handle);
-            hold(at(&account.taken) == self.port.handle_at(channel), "handle at a channel");
-            hold(at(&account.ties) == self.port.tied_handle(channel), "tied handle");
+            hold(found(&account.taken, channel) == self.port.handle_at(channel), "handle at a channel");
+            hold(found(&account.ties, channel) == self.port.tied_handle(channel), "tied handle");
         }
-        if all && !step.ends {
-            let given = account.phase == Phase::Running && account.agreed && ![11, 12, 13].contains(&account.state);
-            hold(self.port.hand_out() == given.then(|| self.rust.hand_out()), "hand-out list");
+        if all {
+            let held = self.port.held();
+            hold(account.taken == held.taken, "taken channels");
+            hold(account.ties == held.ties, "ties");
+            if !ends {
+                let listed = account.agreed.then(|| self.rust.hand_out());
+                let allowed = account.phase == Phase::Running && ![11, 12, 13].contains(&account.state);
+                hold(listed == held.hand_out, "hand-out list");
+                hold(listed.filter(|_| allowed) == self.port.given(), "channels given in turn");
+            }
         }
         wrong.is_empty().then_some(()).ok_or_else(|| format!("accounts differ: {}", wrong.join(", ")))
     }
 
     /// The outcome that a status must show: none while running, the one to come while awaiting, and then the one that was answered.
-    fn outcome(&self, both: &Both, status: &Status) -> u8 {
-        match status.phase {
+    fn outcome(&self, both: &Both) -> u8 {
+        match self.port.status().phase {
             0 => 0,
             1 => self.kept,
             _ if both.before.phase == Phase::Stopped => both.port_before.outcome,
             _ => both.reply.outcome,
         }
     }
+}
+
+/// The handle of a channel in a list that is ascending by channel.
+fn found(list: &[(u16, u32)], channel: u16) -> Option<u32> {
+    list.binary_search_by_key(&channel, |(at, _)| *at).ok().map(|at| list[at].1)
 }
 
 // ---- what both sides are held to
@@ -416,7 +475,7 @@ impl Both<'_> {
     }
 
     fn taken(&self, channel: u16) -> Option<u32> {
-        self.before.taken.iter().find(|(at, _)| *at == channel).map(|(_, handle)| *handle)
+        found(&self.before.taken, channel)
     }
 }
 
@@ -743,6 +802,7 @@ fn oversized(both: &Both) -> Option<Oversized> {
         if let Some(tie) = tie {
             held.ties.retain(|(at, _)| *at != tie.0);
             held.ties.push(tie);
+            held.ties.sort();
         }
         earlier.extend(frame);
     }

@@ -1,9 +1,9 @@
 //! The definition of the engine (crates/engine_model, crates/connection_model) in plain Rust, so that the oracle can be held against it where the
 //! archive is not at hand. Bodies are read and written by the stand-ins, which are no oracle.
 
-use std::collections::BTreeMap;
+use std::collections::{BTreeMap, VecDeque};
 
-use crate::events::{depth, frame, Event, Port, Reply, Status};
+use crate::events::{depth, frame, Event, Held, Port, Reply, Status};
 use fe2o3_amqp::auth::{Role, Settings};
 use fe2o3_amqp_types::performatives::Performative;
 use serde::{Deserialize, Serialize};
@@ -48,8 +48,8 @@ pub struct Definition {
     state: u8,
     reading_limit: usize,
     writing_limit: usize,
-    agreed: Option<u8>,
-    hand_out: Option<Vec<u16>>,
+    agreed: Option<u16>,
+    hand_out: Option<VecDeque<u16>>,
     taken: BTreeMap<u16, u32>,
     ties: BTreeMap<u16, u32>,
 }
@@ -279,17 +279,14 @@ impl Definition {
             return Err(22);
         }
         let list = self.hand_out.as_mut().ok_or(21)?;
-        if list.is_empty() {
-            return Err(23);
-        }
-        let channel = list.remove(0);
+        let channel = list.pop_front().ok_or(23)?;
         self.taken.insert(channel, handle);
         Ok(channel)
     }
 
     fn deallocate(&mut self, channel: u16) -> Result<u32, u8> {
         let handle = self.taken.remove(&channel).ok_or(26)?;
-        self.hand_out.as_mut().expect("channels are taken after the peer's Open").insert(0, channel);
+        self.hand_out.as_mut().expect("channels are taken after the peer's Open").push_front(channel);
         Ok(handle)
     }
 
@@ -337,7 +334,7 @@ impl Definition {
             _ => return Err(20),
         };
         let agreed = most.min(self.highest());
-        self.agreed = Some(agreed as u8);
+        self.agreed = Some(agreed);
         self.hand_out = Some((0..=agreed).collect());
         self.writing_limit = size.clamp(512, 16384) as usize;
         self.reading_limit = self.settings.max_frame_size as usize;
@@ -638,8 +635,14 @@ impl Port for Definition {
         self.ties.get(&channel).copied()
     }
 
-    fn hand_out(&self) -> Option<Vec<u16>> {
+    fn held(&self) -> Held {
+        let pairs = |map: &BTreeMap<u16, u32>| map.iter().map(|(channel, handle)| (*channel, *handle)).collect();
+        let hand_out = self.hand_out.clone().map(Vec::from);
+        Held { taken: pairs(&self.taken), ties: pairs(&self.ties), hand_out }
+    }
+
+    fn given(&self) -> Option<Vec<u16>> {
         let allowed = self.phase == Phase::Running && ![CLOSE_SENT, DISCARDING, END].contains(&self.state);
-        self.hand_out.clone().filter(|_| allowed)
+        self.hand_out.clone().filter(|_| allowed).map(Vec::from)
     }
 }

@@ -104,8 +104,17 @@ pub struct Status {
     pub state: u8,
     pub reading_limit: usize,
     pub writing_limit: usize,
-    pub agreed: Option<u8>,
+    pub agreed: Option<u16>,
     pub taken: usize,
+}
+
+/// What the port holds of channels. Both lists with handles are by channel, ascending.
+#[derive(Debug, Clone, PartialEq, Eq)]
+pub struct Held {
+    pub taken: Vec<(u16, u32)>,
+    pub ties: Vec<(u16, u32)>,
+    /// The hand-out list; none before a channel-max is agreed.
+    pub hand_out: Option<Vec<u16>>,
 }
 
 /// An engine of the port, by its C interface or as the definition in plain Rust.
@@ -114,8 +123,12 @@ pub trait Port {
     fn status(&self) -> Status;
     fn handle_at(&self, channel: u16) -> Option<u32>;
     fn tied_handle(&self, channel: u16) -> Option<u32>;
+    /// All that is held of channels, in every phase.
+    fn held(&self) -> Held;
     /// The channels that would be given in turn; none where allocating is not allowed at all.
-    fn hand_out(&self) -> Option<Vec<u16>>;
+    fn given(&self) -> Option<Vec<u16>>;
+    /// Whether after a refusal every byte of the state is compared with what it was.
+    fn watch(&mut self, _watched: bool) {}
 }
 
 // ---- frames

@@ -1,10 +1,12 @@
 //! Differential runs of the Rust and the port.
 //!
-//! harness check              closure, lists 2, limits, random 4000 and loops 2; a rule that never occurred is a finding
+//! harness check              closure, lists 2, limits, full, random 4000 and loops 2; a rule that never occurred is a finding
 //! harness closure            every event of the alphabet in every reachable account of both roles
 //! harness lists LENGTH       every list of events up to LENGTH, from Start and from Opened, both roles
-//! harness random COUNT [SEED [LENGTH]]   COUNT random lists from SEED (1) on, of LENGTH (300) events each; COUNT 1 replays a seed
+//! harness random COUNT [SEED [LENGTH]]   COUNT random lists from SEED (1) on, of up to LENGTH (300) events each, four times as many with a crowd of
+//!                            sessions; COUNT 1 replays a seed
 //! harness limits             the limits after the Rust's own opening, beside the port's
+//! harness full               every channel taken, tied, freed and untied, at channel-maxes up to 65,535, both roles
 //! harness loops LENGTH       the Rust's functions one by one beside its own loop, on every list up to LENGTH from seven beginnings
 //! harness record             a sample of lists with their answers, as text
 //!
@@ -19,6 +21,7 @@ mod compare;
 #[cfg(not(feature = "port"))]
 mod definition;
 mod events;
+mod full;
 mod loops;
 mod random;
 mod record;
@@ -251,6 +254,7 @@ fn check(tally: &mut Tally) {
     closure(tally);
     all_lists(2, tally);
     limits(tally);
+    full::full(tally);
     random(RANDOM, "1", "300", tally);
     for (rule, name, _) in RULES {
         if !tally.rules.contains_key(&rule) {
@@ -269,6 +273,7 @@ fn run(arguments: &[&str], tally: &mut Tally) -> bool {
         ["random", count, seed] => random(count, seed, "300", tally),
         ["random", count, seed, length] => random(count, seed, length, tally),
         ["limits"] => limits(tally),
+        ["full"] => full::full(tally),
         ["loops", length] => loops(length.parse().expect("a length"), tally),
         ["check"] => check(tally),
         _ => return false,
@@ -311,7 +316,7 @@ fn main() {
     let mut tally = Tally::default();
     if !run(&words, &mut tally) {
         eprintln!(
-            "usage: harness check | closure | lists LENGTH | random COUNT [SEED [LENGTH]] | limits | loops LENGTH | record [--frames FILE]"
+            "usage: harness check | closure | lists LENGTH | random COUNT [SEED [LENGTH]] | limits | full | loops LENGTH | record [--frames FILE]"
         );
         exit(2);
     }

@@ -5,6 +5,13 @@ use crate::events::*;
 use crate::{Side, Tally, SHOWN};
 use fe2o3_amqp::auth::{Account, Phase, Role, Settings};
 
+/// Local channel-maxes. From `MANY` on channels are chosen beside the limits too, and crowds of sessions come.
+const CHANNEL_MAXES: [u16; 8] = [0, 1, 2, 7, 255, 256, 4096, 65535];
+const MANY: u16 = 255;
+
+/// How many times as long as another list one with a crowd may be.
+const LONGER: usize = 4;
+
 /// xorshift64*: small, and the same everywhere.
 pub struct Dice {
     state: u64,
@@ -43,7 +50,7 @@ fn settings(dice: &mut Dice) -> Settings {
     Settings {
         container_id: vec![b'h'; dice.pick(&[0, 3, 255])],
         max_frame_size: dice.pick(&[512, 513, 4096, 16384]),
-        channel_max: dice.pick(&[0, 1, 2, 7, 255]),
+        channel_max: dice.pick(&CHANNEL_MAXES),
         idle_time_out: dice.pick(&[None, Some(0), Some(60_000)]),
     }
 }
@@ -57,29 +64,49 @@ struct Place<'a> {
 }
 
 impl Place<'_> {
-    /// Mostly one of the list, now and then any, the highest or one above.
+    /// Mostly one of the list, now and then any, the highest or one above, where there is one.
     fn channel(&self, dice: &mut Dice, list: &[(u16, u32)]) -> u16 {
         let highest = self.settings.channel_max;
         match dice.below(300) {
-            0 => highest + 1,
+            0 => highest.saturating_add(1),
             1 => highest,
             2 => dice.below(highest as u64 + 1) as u16,
+            3 => self.edge(dice),
             _ if list.is_empty() => dice.below(highest.min(3) as u64 + 1) as u16,
             _ => dice.pick(list).0,
         }
     }
 
-    fn free_channel(&self, dice: &mut Dice) -> u16 {
+    /// An incoming channel, now and then one above the highest, where there is one.
+    fn incoming_channel(&self, dice: &mut Dice) -> u16 {
         if dice.one_in(300) {
-            self.settings.channel_max + 1
+            self.settings.channel_max.saturating_add(1)
         } else {
-            dice.below(self.settings.channel_max as u64 + 1) as u16
+            self.any_channel(dice)
         }
+    }
+
+    /// Any channel. Of many it is often one beside a limit, one of the lowest, or one that is tied.
+    fn any_channel(&self, dice: &mut Dice) -> u16 {
+        let highest = self.settings.channel_max;
+        match if highest < MANY { 7 } else { dice.below(8) } {
+            0 | 1 => self.edge(dice),
+            2 | 3 if !self.account.ties.is_empty() => dice.pick(&self.account.ties).0,
+            4 => dice.below(4) as u16,
+            _ => dice.below(highest as u64 + 1) as u16,
+        }
+    }
+
+    /// A channel beside a limit, the agreed one's among them.
+    fn edge(&self, dice: &mut Dice) -> u16 {
+        let (highest, agreed) = (self.settings.channel_max, self.account.channel_max);
+        let edges = [254, 255, 256, 257, agreed, agreed.saturating_add(1), highest.saturating_sub(1), highest];
+        dice.pick(&edges).min(highest)
     }
 
     /// A Begin that came.
     fn begin(&self, dice: &mut Dice) -> Vec<u8> {
-        let channel = self.free_channel(dice);
+        let channel = self.incoming_channel(dice);
         let new = self.role == Role::Listener && self.room && dice.one_in(2);
         if new || dice.one_in(200) {
             begin(channel, None)
@@ -122,7 +149,7 @@ impl Place<'_> {
     fn outgoing(&self, dice: &mut Dice) -> Vec<u8> {
         let channel = self.channel(dice, &self.account.taken);
         if dice.one_in(3) {
-            let remote = (!self.account.taken.is_empty() && dice.one_in(2)).then(|| self.free_channel(dice));
+            let remote = (!self.account.taken.is_empty() && dice.one_in(2)).then(|| self.incoming_channel(dice));
             return begin(channel, remote);
         }
         self.between(dice, channel)
@@ -218,7 +245,7 @@ fn damaged(dice: &mut Dice, mut frame: Vec<u8>) -> Vec<u8> {
 
 fn any_open(dice: &mut Dice) -> Vec<u8> {
     let size = dice.pick(&[0, 511, 512, 513, 4096, 16384, 16385, 65536, u32::MAX]);
-    open(size, dice.pick(&[0, 1, 7, 255, 65535]), dice.pick(&[None, None, None, Some(0), Some(9)]))
+    open(size, dice.pick(&[0, 1, 7, 255, 256, 4095, 65534, 65535]), dice.pick(&[None, None, None, Some(0), Some(9)]))
 }
 
 fn incoming(dice: &mut Dice, place: &Place) -> Vec<u8> {
@@ -289,11 +316,47 @@ fn any_header(dice: &mut Dice) -> Vec<u8> {
     dice.pick(&headers).to_vec()
 }
 
-/// A beginning: mostly an opening, in one order or the other.
-fn beginning(dice: &mut Dice) -> Vec<Event> {
+/// A crowd of sessions: they come until there are so many, and then leave, in any order, until few are left.
+struct Crowd {
+    most: usize,
+    leaving: bool,
+}
+
+impl Crowd {
+    fn new(dice: &mut Dice) -> Self {
+        Crowd { most: 100 + dice.below(500) as usize, leaving: false }
+    }
+
+    fn event(&mut self, dice: &mut Dice, place: &Place) -> Event {
+        let (taken, ties) = (&place.account.taken, &place.account.ties);
+        if self.leaving && taken.len() <= self.most / 8 {
+            *self = Crowd::new(dice);
+        }
+        self.leaving |= taken.len() >= self.most || !place.room;
+        let handle = dice.roll() as u32;
+        let incoming = |frame| Event::Incoming { frame, spare: handle, waiting: Vec::new() };
+        let begins = if self.leaving { 12 } else { 16 };
+        match dice.below(20) {
+            0..=10 if self.leaving => Event::Deallocate(dice.pick(taken).0),
+            0..=11 => Event::Allocate(handle),
+            at if at <= begins && place.role == Role::Listener && place.room && dice.one_in(3) => {
+                incoming(begin(place.any_channel(dice), None))
+            }
+            at if at <= begins && !taken.is_empty() => incoming(begin(place.any_channel(dice), Some(dice.pick(taken).0))),
+            17 if !taken.is_empty() => Event::Outgoing(begin(dice.pick(taken).0, Some(place.any_channel(dice)))),
+            18 if !ties.is_empty() => incoming(transfer(dice.pick(ties).0, 9)),
+            _ if !ties.is_empty() => incoming(end(dice.pick(ties).0)),
+            _ => Event::Tick,
+        }
+    }
+}
+
+/// A beginning: mostly an opening, in one order or the other; before a crowd always, and with many channels.
+fn beginning(dice: &mut Dice, crowd: bool) -> Vec<Event> {
     let header = Event::ReceiveHeader(b"AMQP\x00\x01\x00\x00".to_vec());
-    let open = Event::Incoming { frame: any_open(dice), spare: 0, waiting: Vec::new() };
-    match dice.below(24) {
+    let frame = if crowd { open(4096, dice.pick(&[255, 256, 4095, 65534, 65535]), None) } else { any_open(dice) };
+    let open = Event::Incoming { frame, spare: 0, waiting: Vec::new() };
+    match if crowd { 14 + dice.below(2) } else { dice.below(24) } {
         0 => Vec::new(),
         1 => vec![Event::SendHeader, Event::SendOpen],
         2 => vec![Event::SendHeader, header, Event::SendOpen],
@@ -305,75 +368,108 @@ fn beginning(dice: &mut Dice) -> Vec<Event> {
     }
 }
 
-/// A role, settings, and events to begin with.
-pub fn setting(dice: &mut Dice) -> (Role, Settings, Vec<Event>) {
-    let role = dice.pick(&[Role::Dialler, Role::Listener]);
-    let settings = settings(dice);
-    let events = beginning(dice);
-    (role, settings, events)
+/// What a list is made by.
+pub struct Setting {
+    pub role: Role,
+    pub settings: Settings,
+    /// Events to begin with.
+    pub beginning: Vec<Event>,
+    crowd: Option<Crowd>,
 }
 
-/// An event for where the pair is now.
-pub fn place_event(dice: &mut Dice, role: Role, settings: &Settings, pair: &Pair<Side>) -> Event {
-    let room = !pair.rust.hand_out().is_empty();
-    event(dice, &Place { role, settings, account: pair.rust.account(), room })
+impl Setting {
+    pub fn new(dice: &mut Dice) -> Self {
+        let role = dice.pick(&[Role::Dialler, Role::Listener]);
+        let settings = settings(dice);
+        let crowd = (settings.channel_max >= MANY && dice.one_in(12)).then(|| Crowd::new(dice));
+        let beginning = beginning(dice, crowd.is_some());
+        Setting { role, settings, beginning, crowd }
+    }
+
+    /// How many sessions come, where they come as a crowd.
+    pub fn crowd(&self) -> Option<usize> {
+        self.crowd.as_ref().map(|crowd| crowd.most)
+    }
+
+    pub fn pair(&self) -> Pair<Side> {
+        Pair::new(self.role, &self.settings, Side::new(self.role, &self.settings))
+    }
+
+    /// An event for where the pair is now.
+    pub fn event(&mut self, dice: &mut Dice, pair: &Pair<Side>) -> Event {
+        let account = pair.rust.account();
+        let room = account.taken.len() <= account.channel_max as usize;
+        let place = Place { role: self.role, settings: &self.settings, account, room };
+        match &mut self.crowd {
+            Some(crowd) if place.account.phase == Phase::Running && !dice.one_in(30) => crowd.event(dice, &place),
+            _ => event(dice, &place),
+        }
+    }
 }
 
-/// Runs a seed's list, and notes its events. The finding, if there is one.
-fn live(seed: u64, length: usize, tally: &mut Tally) -> (Role, Settings, Vec<Event>, bool) {
+/// Runs a seed's list, and notes its events. Whether there is a finding.
+fn live(seed: u64, length: usize, tally: &mut Tally) -> (Setting, Vec<Event>, bool) {
     let mut dice = Dice::new(seed);
-    let (role, settings, mut events) = setting(&mut dice);
-    let mut pair = Pair::new(role, &settings, Side::new(role, &settings));
+    let mut setting = Setting::new(&mut dice);
+    let mut pair = setting.pair();
+    let mut events = setting.beginning.clone();
+    let length = if setting.crowd().is_some() { LONGER * length } else { length };
     for at in 0..length {
         dice.damaged = false;
         if at == events.len() {
-            events.push(place_event(&mut dice, role, &settings, &pair));
+            events.push(setting.event(&mut dice, &pair));
         }
         // A damaged frame that still goes out has fields that no session would write.
         pair.keeps_written = !dice.damaged;
         match pair.step(&events[at]) {
-            Err(_) => return (role, settings, events, true),
+            Err(_) => return (setting, events, true),
             Ok(step) => {
                 tally.events += 1;
                 tally.count(&step.rules);
                 if step.ends || pair.port.status().phase == 2 {
-                    break;
+                    return (setting, events, false);
                 }
             }
         }
     }
-    (role, settings, events, false)
+    (setting, events, pair.whole().is_err())
 }
 
-/// Replays a list up to where the sides go apart: the finding, if there is one, and its place.
-fn run(role: Role, settings: &Settings, events: &[Event]) -> Option<(usize, String)> {
-    let mut pair = Pair::new(role, settings, Side::new(role, settings));
+/// Replays a list up to where the sides go apart: the finding, if there is one, and how many events lead to it.
+fn run(setting: &Setting, events: &[Event]) -> Option<(usize, String)> {
+    let mut pair = setting.pair();
     for (at, event) in events.iter().enumerate() {
         match pair.step(event) {
-            Err(what) => return Some((at, what)),
+            Err(what) => return Some((at + 1, what)),
             Ok(step) if step.ends || pair.port.status().phase == 2 => return None,
             Ok(_) => {}
         }
     }
-    None
+    pair.whole().err().map(|what| (events.len(), what))
 }
 
-/// Leaves out events while a finding stays.
-fn shrink(role: Role, settings: &Settings, mut events: Vec<Event>) -> (Vec<Event>, String) {
-    let (mut at, mut what) = run(role, settings, &events).expect("a list with a finding");
-    events.truncate(at + 1);
-    let mut from = 0;
-    while from < events.len() {
-        let mut fewer = events.clone();
-        fewer.remove(from);
-        match run(role, settings, &fewer) {
-            Some((there, finding)) => {
-                (at, what) = (there, finding);
-                fewer.truncate(at + 1);
-                events = fewer;
-                from = 0;
+/// Leaves out events while a finding stays: half of them at a time, then fewer, and one by one until none can be left out.
+fn shrink(setting: &Setting, mut events: Vec<Event>) -> (Vec<Event>, String) {
+    let (count, mut what) = run(setting, &events).expect("a list with a finding");
+    events.truncate(count);
+    let mut size = events.len() / 2;
+    while size > 0 {
+        let before = events.len();
+        let mut from = 0;
+        while from < events.len() {
+            let mut fewer = events.clone();
+            fewer.drain(from..(from + size).min(events.len()));
+            match run(setting, &fewer) {
+                Some((count, finding)) => {
+                    what = finding;
+                    fewer.truncate(count);
+                    events = fewer;
+                }
+                None => from += size,
             }
-            None => from += 1,
+        }
+        if size > 1 || events.len() == before {
+            size /= 2;
         }
     }
     (events, what)
@@ -382,14 +478,15 @@ fn shrink(role: Role, settings: &Settings, mut events: Vec<Event>) -> (Vec<Event
 /// One seed's list; its finding is shrunk, as long as findings are shown.
 pub fn seed(seed: u64, length: usize, tally: &mut Tally) {
     tally.lists += 1;
-    let (role, settings, events, found) = live(seed, length, tally);
+    let (setting, events, found) = live(seed, length, tally);
     if !found {
         return;
     }
     if tally.findings >= SHOWN {
         return tally.found("");
     }
-    let (events, what) = shrink(role, &settings, events);
+    let (events, what) = shrink(&setting, events);
     let lines: Vec<String> = events.iter().map(|event| format!("    {event}")).collect();
+    let (role, settings) = (setting.role, &setting.settings);
     tally.found(&format!("seed {seed} ({length} events), {role:?}, {settings:?}, shrunk to\n{}\n  {what}", lines.join("\n")));
 }

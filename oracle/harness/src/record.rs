@@ -5,7 +5,7 @@
 
 use crate::compare::{Pair, Step};
 use crate::events::{hex, Event, Port};
-use crate::random::{place_event, Dice};
+use crate::random::{Dice, Setting};
 use crate::{named, Letters, Side};
 use fe2o3_amqp::auth::{Role, Settings};
 
@@ -104,14 +104,12 @@ fn walk(seed: u64, letters: &Letters) {
 }
 
 /// A list of the random runs, cut off.
-fn long(seed: u64) {
-    let mut dice = Dice::new(seed);
-    let (role, settings, beginning) = crate::random::setting(&mut dice);
-    let mut pair = begin(role, &settings);
-    for at in 0..60 {
-        let event = match beginning.get(at) {
+fn long(mut dice: Dice, mut setting: Setting, length: usize) {
+    let mut pair = begin(setting.role, &setting.settings);
+    for at in 0..length {
+        let event = match setting.beginning.get(at) {
             Some(event) => event.clone(),
-            None => place_event(&mut dice, role, &settings, &pair),
+            None => setting.event(&mut dice, &pair),
         };
         // A recording is to be read: no long frames.
         if done(&event).len() > 2500 {
@@ -132,5 +130,18 @@ pub fn record() {
         step(&mut over, &letters[named(&letters, name)].1);
     }
     (1..=250).for_each(|seed| walk(seed, &letters));
-    (1..=80).for_each(long);
+    let random = |seed| {
+        let mut dice = Dice::new(seed);
+        let setting = Setting::new(&mut dice);
+        (dice, setting)
+    };
+    for (dice, setting) in (1..=80).map(random) {
+        long(dice, setting, 60);
+    }
+    // Sessions that come as a crowd, and leave before the list is cut off.
+    for most in [256, 65535] {
+        let small = |setting: &Setting| setting.settings.channel_max == most && setting.crowd().is_some_and(|crowd| crowd <= 120);
+        let (dice, setting) = (81..).map(random).find(|(_, setting)| small(setting)).expect("a small crowd");
+        long(dice, setting, 300);
+    }
 }

@@ -1,4 +1,4 @@
--- `run_lines` is safe and ends: each turn passes a line. The lent bytes stay as many as they were.
+-- `run_lines` is safe and ends: each turn passes a line. The tables and the lent bytes stay as long as they were.
 -- Assumes nothing.
 use borrow.Author.Needs.{needs}
 use mathlib.Core.Path.{_≡_}
@@ -8,10 +8,11 @@ use Rattle.bench.proofs.run_lines.Statement.{statement}
 use Rattle.bench.proofs.run_lines.Tie as tie
 
 abbrev Inv-loop : tie.InvT-loop
-Inv-loop text out₀ at₀ out at = length out ≡ length out₀
+Inv-loop text tables₀ out₀ at₀ tables out at =
+    (length tables ≡ length tables₀) × (length out ≡ length out₀)
 
 abbrev μ-loop : tie.MeasureT-loop
-μ-loop text out₀ at₀ out at = length text - at
+μ-loop text tables₀ out₀ at₀ tables out at = length text - at
 
 loop-holds : tie.Need-loop-holds Inv-loop μ-loop
 loop-holds c = search needs
@@ -28,6 +29,9 @@ run-line-requires c κs = search needs
 same-length : tie.Need-same-length Inv-loop μ-loop
 same-length c = search needs
 
+same-length-2 : tie.Need-same-length-2 Inv-loop μ-loop
+same-length-2 c = search needs
+
 returns : tie.Need-returns Inv-loop μ-loop
 returns c = search needs
 
@@ -40,8 +44,11 @@ loop-less c = search needs
 loop-again : tie.Need-loop-again Inv-loop μ-loop
 loop-again c = search needs
 
-same-length-2 : tie.Need-same-length-2 Inv-loop μ-loop
-same-length-2 c = search needs
+same-length-3 : tie.Need-same-length-3 Inv-loop μ-loop
+same-length-3 c = search needs
+
+same-length-4 : tie.Need-same-length-4 Inv-loop μ-loop
+same-length-4 c = search needs
 
 returns-2 : tie.Need-returns-2 Inv-loop μ-loop
 returns-2 c = search needs
@@ -57,9 +64,11 @@ run-lines-spec =
     part-requires
     run-line-requires
     same-length
+    same-length-2
     returns
     add-at
     loop-less
     loop-again
-    same-length-2
+    same-length-3
+    same-length-4
     returns-2)

@@ -3,7 +3,7 @@
 use borrow.Author.Needs.{needs}
 use Rattle.octets.specs.Output.{roomFor}
 use Rattle.hisproat.specs.Crossing.{fitsIn}
-use Rattle.hisproat.proofs.Crossings.{crosses-short, crosses-broken, crosses}
+use Rattle.hisproat.proofs.Crossings.{crosses-short, crosses-broken, crosses-in, read-long}
 use Rattle.hisproat.proofs.hisproat_on_close.Statement.{statement}
 use Rattle.hisproat.proofs.hisproat_on_close.Tie as tie
 
@@ -17,6 +17,12 @@ returns c = crosses-short _ _ _ _ (c .before .lacks-room .ensures) (c .if1 .take
 from-bytes-requires : tie.Need-from-bytes-requires
 from-bytes-requires c κs = search needs
 
+enum-known-engine : tie.Need-enum-known-engine
+enum-known-engine c = search needs
+
+enum-told : tie.Need-enum-told
+enum-told c = search needs
+
 same-length : tie.Need-same-length
 same-length c = search needs
 
@@ -24,7 +30,17 @@ returns-2 : tie.Need-returns-2
 unfolding roomFor fitsIn
 returns-2 c =
     let r = c .before .before in
-    crosses-broken _ _ _ _ (r .from-bytes .ensures) _ (r .before .before .before .lacks-room .ensures) (r .before .before .if1 .left) (c .if2 .taken)
+    let k = r .before .before in
+    crosses-broken _ _ _ _ (k .before .lacks-room .ensures) (k .if1 .left) _ (r .from-bytes .ensures) (c .enum-told .given .1)
+
+sub-on-close : tie.Need-sub-on-close
+sub-on-close c = read-long _ _ (c .before .before .before .from-bytes .ensures) _ (c .before .engine .given .1)
+
+part-on-close-start : tie.Need-part-on-close-start
+part-on-close-start c = read-long _ _ (c .before .before .before .from-bytes .ensures) _ (c .before .engine .given .1)
+
+part-on-close-end : tie.Need-part-on-close-end
+part-on-close-end c = search needs
 
 on-close-requires : tie.Need-on-close-requires
 on-close-requires c κs = search needs
@@ -49,10 +65,11 @@ unfolding roomFor fitsIn
 returns-3 c =
     let f = c .before .before .before .before in
     let t = f .before .before .before in
-    let e = t .before .before .before .before in
-    let k = e .before .before .before in
-    let r = k .before .before in
-    crosses _ _ _ _ (r .from-bytes .ensures) _ (r .before .before .before .lacks-room .ensures) (r .before .before .if1 .left) (k .if2 .left) _ _ _ _ _ _ _ _ (e .on-close .ensures .0) (t .sent .ensures) (f .finish .ensures)
+    let x = t .before .before .before .before .before .before in
+    let g = x .before .before .before .before in
+    let r = g .before .before in
+    let k = r .before .before in
+    crosses-in _ _ _ _ (k .before .lacks-room .ensures) (k .if1 .left) _ (r .from-bytes .ensures) _ (g .engine .given .1) _ _ _ _ (x .on-close .ensures .0) _ _ _ _ _ (t .sent .ensures) (f .finish .ensures)
 
 pub hisproat-on-close-spec : {M : Type 1} → statement M
 hisproat-on-close-spec =
@@ -61,8 +78,13 @@ hisproat-on-close-spec =
     lacks-room-requires
     returns
     from-bytes-requires
+    enum-known-engine
+    enum-told
     same-length
     returns-2
+    sub-on-close
+    part-on-close-start
+    part-on-close-end
     on-close-requires
     sent-requires
     finish-requires

@@ -1,10 +1,9 @@
--- `hisproat_on_incoming`: 9, 8, or the event done; a frame that only goes on leaves the state as it is.
+-- `hisproat_on_incoming`: 9, 8, or the event done.
 -- Assumes nothing.
 use borrow.Author.Needs.{needs}
 use Rattle.octets.specs.Output.{roomFor}
 use Rattle.hisproat.specs.Crossing.{fitsIn}
-use Rattle.hisproat.proofs.Crossings.{crosses-short, crosses-broken}
-use Rattle.hisproat.proofs.Keeping.{keeps-passed, crosses-kept}
+use Rattle.hisproat.proofs.Crossings.{crosses-short, crosses-broken, crosses-in, read-long}
 use Rattle.hisproat.proofs.hisproat_on_incoming.Statement.{statement}
 use Rattle.hisproat.proofs.hisproat_on_incoming.Tie as tie
 
@@ -18,6 +17,12 @@ returns c = crosses-short _ _ _ _ (c .before .lacks-room .ensures) (c .if1 .take
 from-bytes-requires : tie.Need-from-bytes-requires
 from-bytes-requires c κs = search needs
 
+enum-known-engine : tie.Need-enum-known-engine
+enum-known-engine c = search needs
+
+enum-told : tie.Need-enum-told
+enum-told c = search needs
+
 same-length : tie.Need-same-length
 same-length c = search needs
 
@@ -25,19 +30,26 @@ returns-2 : tie.Need-returns-2
 unfolding roomFor fitsIn
 returns-2 c =
     let r = c .before .before in
-    crosses-broken _ _ _ _ (r .from-bytes .ensures) _ (r .before .before .before .lacks-room .ensures) (r .before .before .if1 .left) (c .if2 .taken)
+    let k = r .before .before in
+    crosses-broken _ _ _ _ (k .before .lacks-room .ensures) (k .if1 .left) _ (r .from-bytes .ensures) (c .enum-told .given .1)
+
+sub-on-incoming : tie.Need-sub-on-incoming
+sub-on-incoming c = read-long _ _ (c .before .before .before .from-bytes .ensures) _ (c .before .engine .given .1)
+
+part-on-incoming-start : tie.Need-part-on-incoming-start
+part-on-incoming-start c = read-long _ _ (c .before .before .before .from-bytes .ensures) _ (c .before .engine .given .1)
+
+part-on-incoming-end : tie.Need-part-on-incoming-end
+part-on-incoming-end c = search needs
 
 on-incoming-requires : tie.Need-on-incoming-requires
 on-incoming-requires c κs = search needs
 
-passed-on-requires : tie.Need-passed-on-requires
-passed-on-requires c κs = search needs
-
 received-requires : tie.Need-received-requires
 received-requires c κs = search needs
 
-finish-kept-requires : tie.Need-finish-kept-requires
-finish-kept-requires c κs = search needs
+finish-requires : tie.Need-finish-requires
+finish-requires c κs = search needs
 
 same-length-2 : tie.Need-same-length-2
 same-length-2 c = search needs
@@ -53,13 +65,11 @@ unfolding roomFor fitsIn
 returns-3 c =
     let f = c .before .before .before .before in
     let t = f .before .before .before in
-    let p = t .before in
-    let e = p .before .before .before .before in
-    let k = e .before .before .before in
-    let r = k .before .before in
-    let d = e .on-incoming .ensures .0 in
-    crosses-kept _ _ _ _ (r .from-bytes .ensures) _ (r .before .before .before .lacks-room .ensures) (r .before .before .if1 .left) (k .if2 .left) _ _ _ _ _ _ _ _ _ d (t .received .ensures) (f .finish-kept .ensures)
-    (keeps-passed _ _ (r .from-bytes .ensures .sound) _ _ _ _ _ (e .on-incoming .result .running) (e .on-incoming .result .consumed) (e .on-incoming .result .written) (e .on-incoming .result .answer) _ (p .passed-on .ensures) d)
+    let x = t .before .before .before .before .before .before in
+    let g = x .before .before .before .before in
+    let r = g .before .before in
+    let k = r .before .before in
+    crosses-in _ _ _ _ (k .before .lacks-room .ensures) (k .if1 .left) _ (r .from-bytes .ensures) _ (g .engine .given .1) _ _ _ _ (x .on-incoming .ensures .0) _ _ _ _ _ (t .received .ensures) (f .finish .ensures)
 
 pub hisproat-on-incoming-spec : {M : Type 1} → statement M
 hisproat-on-incoming-spec =
@@ -68,12 +78,16 @@ hisproat-on-incoming-spec =
     lacks-room-requires
     returns
     from-bytes-requires
+    enum-known-engine
+    enum-told
     same-length
     returns-2
+    sub-on-incoming
+    part-on-incoming-start
+    part-on-incoming-end
     on-incoming-requires
-    passed-on-requires
     received-requires
-    finish-kept-requires
+    finish-requires
     same-length-2
     same-length-3
     same-length-4

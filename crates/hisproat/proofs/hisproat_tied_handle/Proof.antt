@@ -1,7 +1,8 @@
--- `hisproat_tied_handle`: 9, 8, or the handle that the channel is tied to.
+-- `hisproat_tied_handle`: 9, 8, or the handle.
 -- Assumes nothing.
 use borrow.Author.Needs.{needs}
-use Rattle.hisproat.proofs.Readings.{reports-short, reports-broken, reports, tied-told}
+use Rattle.hisproat.proofs.Crossings.{read-long}
+use Rattle.hisproat.proofs.Readings.{reports-short, reports-broken, tied-told}
 use Rattle.hisproat.proofs.hisproat_tied_handle.Statement.{statement}
 use Rattle.hisproat.proofs.hisproat_tied_handle.Tie as tie
 
@@ -11,19 +12,34 @@ returns c = reports-short _ _ _ _ (c .if1 .taken)
 from-bytes-requires : tie.Need-from-bytes-requires
 from-bytes-requires c κs = search needs
 
+enum-known-engine : tie.Need-enum-known-engine
+enum-known-engine c = search needs
+
+enum-told : tie.Need-enum-told
+enum-told c = search needs
+
 returns-2 : tie.Need-returns-2
 returns-2 c =
     let r = c .before .before in
-    reports-broken _ _ _ _ _ (r .from-bytes .ensures) (r .before .if1 .left) (c .if2 .taken)
+    reports-broken _ _ _ _ (r .before .if1 .left) _ (r .from-bytes .ensures) (c .enum-told .given .1)
 
 connection-requires : tie.Need-connection-requires
 connection-requires c κs = search needs
 
+sub-tied-handle : tie.Need-sub-tied-handle
+sub-tied-handle c = read-long _ _ (c .before .before .before .before .from-bytes .ensures) _ (c .before .before .engine .given .1)
+
+part-tied-handle-start : tie.Need-part-tied-handle-start
+part-tied-handle-start c = read-long _ _ (c .before .before .before .before .from-bytes .ensures) _ (c .before .before .engine .given .1)
+
+part-tied-handle-end : tie.Need-part-tied-handle-end
+part-tied-handle-end c = search needs
+
 tied-handle-requires : tie.Need-tied-handle-requires
 tied-handle-requires c κs = search needs
 
-put-held-requires : tie.Need-put-held-requires
-put-held-requires c κs = search needs
+put-handle-requires : tie.Need-put-handle-requires
+put-handle-requires c κs = search needs
 
 same-length : tie.Need-same-length
 same-length c = search needs
@@ -32,10 +48,10 @@ returns-3 : tie.Need-returns-3
 returns-3 c =
     let p = c .before .before in
     let h = p .before .before in
-    let n = h .before in
-    let k = n .before .before in
-    let r = k .before .before in
-    reports _ _ _ _ _ (r .from-bytes .ensures) (r .before .if1 .left) (k .if2 .left) _ (tied-told _ _ _ (r .from-bytes .result .engine) _ (h .tied-handle .result) (n .connection .ensures) (p .put-held .ensures) (h .tied-handle .ensures))
+    let n = h .before .before in
+    let g = n .before .before in
+    let r = g .before .before in
+    tied-told _ _ _ (r .before .if1 .left) _ (r .from-bytes .ensures) _ (g .engine .given .1) _ (n .connection .ensures) _ _ _ (p .put-handle .ensures) (h .tied-handle .ensures)
 
 pub hisproat-tied-handle-spec : {M : Type 1} → statement M
 hisproat-tied-handle-spec =
@@ -43,9 +59,14 @@ hisproat-tied-handle-spec =
     (tie.spec
     returns
     from-bytes-requires
+    enum-known-engine
+    enum-told
     returns-2
     connection-requires
+    sub-tied-handle
+    part-tied-handle-start
+    part-tied-handle-end
     tied-handle-requires
-    put-held-requires
+    put-handle-requires
     same-length
     returns-3)

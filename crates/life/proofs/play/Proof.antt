@@ -1,4 +1,4 @@
--- `play` is safe and ends: what is left of the script falls. The two outputs stay as long as they were.
+-- `play` is safe and ends: what is left of the script falls. The tables and the outputs stay as long as they were.
 -- Assumes nothing.
 use borrow.Author.Needs.{needs}
 use mathlib.Core.Path.{_≡_}
@@ -8,18 +8,13 @@ use Rattle.life.proofs.play.Statement.{statement}
 use Rattle.life.proofs.play.Tie as tie
 
 abbrev Inv-loop : tie.InvT-loop
-Inv-loop script pad-out₀ hub-out₀ pad₀ hub₀ at₀ pad-out hub-out pad hub at =
-    (length pad-out ≡ length pad-out₀) × (length hub-out ≡ length hub-out₀)
+Inv-loop script pad-tables₀ hub-tables₀ pad-out₀ hub-out₀ pad₀ hub₀ at₀ pad-tables hub-tables pad-out hub-out pad hub at =
+    ((length pad-tables ≡ length pad-tables₀) × (length hub-tables ≡ length hub-tables₀)) ×
+    ((length pad-out ≡ length pad-out₀) × (length hub-out ≡ length hub-out₀))
 
 abbrev μ-loop : tie.MeasureT-loop
-μ-loop script pad-out₀ hub-out₀ pad₀ hub₀ at₀ pad-out hub-out pad hub at =
+μ-loop script pad-tables₀ hub-tables₀ pad-out₀ hub-out₀ pad₀ hub₀ at₀ pad-tables hub-tables pad-out hub-out pad hub at =
     length script - at
-
-slice-aggregate-dialler : tie.Need-slice-aggregate-dialler Inv-loop μ-loop
-slice-aggregate-dialler c = search needs
-
-dialler-requires : tie.Need-dialler-requires Inv-loop μ-loop
-dialler-requires c κs = search needs
 
 loop-holds : tie.Need-loop-holds Inv-loop μ-loop
 loop-holds c = search needs
@@ -32,6 +27,12 @@ same-length c = search needs
 
 same-length-2 : tie.Need-same-length-2 Inv-loop μ-loop
 same-length-2 c = search needs
+
+same-length-3 : tie.Need-same-length-3 Inv-loop μ-loop
+same-length-3 c = search needs
+
+same-length-4 : tie.Need-same-length-4 Inv-loop μ-loop
+same-length-4 c = search needs
 
 returns : tie.Need-returns Inv-loop μ-loop
 returns c = search needs
@@ -72,11 +73,17 @@ loop-less-3 c = search needs
 loop-again-3 : tie.Need-loop-again-3 Inv-loop μ-loop
 loop-again-3 c = search needs
 
-same-length-3 : tie.Need-same-length-3 Inv-loop μ-loop
-same-length-3 c = search needs
+same-length-5 : tie.Need-same-length-5 Inv-loop μ-loop
+same-length-5 c = search needs
 
-same-length-4 : tie.Need-same-length-4 Inv-loop μ-loop
-same-length-4 c = search needs
+same-length-6 : tie.Need-same-length-6 Inv-loop μ-loop
+same-length-6 c = search needs
+
+same-length-7 : tie.Need-same-length-7 Inv-loop μ-loop
+same-length-7 c = search needs
+
+same-length-8 : tie.Need-same-length-8 Inv-loop μ-loop
+same-length-8 c = search needs
 
 returns-2 : tie.Need-returns-2 Inv-loop μ-loop
 returns-2 c = search needs
@@ -87,12 +94,12 @@ play-spec =
     (tie.spec
     Inv-loop
     μ-loop
-    slice-aggregate-dialler
-    dialler-requires
     loop-holds
     find-requires
     same-length
     same-length-2
+    same-length-3
+    same-length-4
     returns
     part-requires
     add-at
@@ -106,6 +113,8 @@ play-spec =
     title-requires
     loop-less-3
     loop-again-3
-    same-length-3
-    same-length-4
+    same-length-5
+    same-length-6
+    same-length-7
+    same-length-8
     returns-2)

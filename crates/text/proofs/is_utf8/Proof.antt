@@ -1,5 +1,5 @@
 -- `text::is_utf8` meets its contract. The invariant: s is UTF-8 just where what is left of it from `at` on is.
-use Rattle.text.proofs.Steps.{char-lies, char-fits, text-stops, text-goes-on, text-ends}
+use Rattle.text.proofs.Steps.{ascii-told, char-lies, char-fits, text-stops, text-goes-on, text-ends}
 use native.Mathlib.Omega.{arith}
 use borrow.Author.Needs.{needs}
 use mathlib.Core.Path.{_≡_, refl}
@@ -14,6 +14,12 @@ Inv-loop s at₀ at = (at ≤ length s) × (utf8 s ≡ utf8 (drop at s))
 
 abbrev μ-loop : tie.MeasureT-loop
 μ-loop s at₀ at = length s - at
+
+is-ascii-requires : tie.Need-is-ascii-requires Inv-loop μ-loop
+is-ascii-requires c κs = search needs
+
+returns : tie.Need-returns Inv-loop μ-loop
+returns c = search (ascii-told, needs)
 
 loop-holds : tie.Need-loop-holds Inv-loop μ-loop
 loop-holds c = (omega arith, refl)
@@ -30,8 +36,8 @@ part-char-length-end c = omega arith
 char-length-requires : tie.Need-char-length-requires Inv-loop μ-loop
 char-length-requires c κs = search needs
 
-returns : tie.Need-returns Inv-loop μ-loop
-returns c = search text-stops
+returns-2 : tie.Need-returns-2 Inv-loop μ-loop
+returns-2 c = search text-stops
 
 add-at : tie.Need-add-at Inv-loop μ-loop
 add-at c = search char-fits
@@ -42,8 +48,8 @@ loop-less c = omega arith
 loop-again : tie.Need-loop-again Inv-loop μ-loop
 loop-again c = (search char-lies, search text-goes-on)
 
-returns-2 : tie.Need-returns-2 Inv-loop μ-loop
-returns-2 c = search text-ends
+returns-3 : tie.Need-returns-3 Inv-loop μ-loop
+returns-3 c = search text-ends
 
 pub is-utf8-spec : {M : Type 1} → statement M
 is-utf8-spec =
@@ -51,13 +57,15 @@ is-utf8-spec =
     (tie.spec
     Inv-loop
     μ-loop
+    is-ascii-requires
+    returns
     loop-holds
     sub-char-length
     part-char-length-start
     part-char-length-end
     char-length-requires
-    returns
+    returns-2
     add-at
     loop-less
     loop-again
-    returns-2)
+    returns-3)

@@ -1,4 +1,4 @@
--- `opens` is safe and ends: the rounds that are left fall. The frame stays as long as it was.
+-- `opens` is safe and ends: the rounds that are left fall. The frame and the tables stay as long as they were.
 -- Assumes nothing.
 use borrow.Author.Needs.{needs}
 use mathlib.Core.Path.{_≡_}
@@ -7,10 +7,12 @@ use Rattle.bench.proofs.calls.opens.Statement.{statement}
 use Rattle.bench.proofs.calls.opens.Tie as tie
 
 abbrev Inv-loop : tie.InvT-loop
-Inv-loop waiting rounds frame₀ connection₀ sum₀ b₀ left₀ frame connection sum b left = length frame ≡ 33
+Inv-loop waiting rounds tables₀ frame₀ connection₀ sum₀ b₀ left₀ tables frame connection sum b left =
+    (length frame ≡ 33) × (length tables ≡ length tables₀)
 
 abbrev μ-loop : tie.MeasureT-loop
-μ-loop waiting rounds frame₀ connection₀ sum₀ b₀ left₀ frame connection sum b left = left
+μ-loop waiting rounds tables₀ frame₀ connection₀ sum₀ b₀ left₀ tables frame connection sum b left =
+    left
 
 loop-holds : tie.Need-loop-holds Inv-loop μ-loop
 loop-holds c = search needs
@@ -33,8 +35,8 @@ idle-of-requires c κs = search needs
 plus-requires : tie.Need-plus-requires Inv-loop μ-loop
 plus-requires c κs = search needs
 
-next-requires : tie.Need-next-requires Inv-loop μ-loop
-next-requires c κs = search needs
+after-requires : tie.Need-after-requires Inv-loop μ-loop
+after-requires c κs = search needs
 
 sub-left : tie.Need-sub-left Inv-loop μ-loop
 sub-left c = search needs
@@ -54,6 +56,9 @@ channel-of-requires c κs = search needs
 plus-requires-2 : tie.Need-plus-requires-2 Inv-loop μ-loop
 plus-requires-2 c κs = search needs
 
+same-length : tie.Need-same-length Inv-loop μ-loop
+same-length c = search needs
+
 returns : tie.Need-returns Inv-loop μ-loop
 returns c = search needs
 
@@ -70,11 +75,12 @@ opens-spec =
     receive-frame-requires
     idle-of-requires
     plus-requires
-    next-requires
+    after-requires
     sub-left
     loop-less
     loop-again
     allocate-session-requires
     channel-of-requires
     plus-requires-2
+    same-length
     returns)

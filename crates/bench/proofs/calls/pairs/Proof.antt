@@ -1,26 +1,26 @@
--- `pairs` is safe and ends: the rounds that are left fall.
+-- `pairs` is safe and ends: the rounds that are left fall. The tables stay as long as they were.
 -- Assumes nothing.
 use borrow.Author.Needs.{needs}
+use mathlib.Core.Path.{_≡_}
+use lib.ListN.{length}
 use Rattle.bench.proofs.calls.pairs.Statement.{statement}
 use Rattle.bench.proofs.calls.pairs.Tie as tie
 
 abbrev Inv-loop : tie.InvT-loop
-Inv-loop last rounds connection₀ sum₀ channel₀ left₀ connection sum channel left = Unit {0}
+Inv-loop last rounds tables₀ connection₀ sum₀ channel₀ left₀ tables connection sum channel left =
+    length tables ≡ length tables₀
 
 abbrev μ-loop : tie.MeasureT-loop
-μ-loop last rounds connection₀ sum₀ channel₀ left₀ connection sum channel left = left
+μ-loop last rounds tables₀ connection₀ sum₀ channel₀ left₀ tables connection sum channel left = left
 
 loop-holds : tie.Need-loop-holds Inv-loop μ-loop
 loop-holds c = search needs
 
-wide-requires : tie.Need-wide-requires Inv-loop μ-loop
-wide-requires c κs = search needs
-
 deallocate-session-requires : tie.Need-deallocate-session-requires Inv-loop μ-loop
 deallocate-session-requires c κs = search needs
 
-held-requires : tie.Need-held-requires Inv-loop μ-loop
-held-requires c κs = search needs
+freed-requires : tie.Need-freed-requires Inv-loop μ-loop
+freed-requires c κs = search needs
 
 plus-requires : tie.Need-plus-requires Inv-loop μ-loop
 plus-requires c κs = search needs
@@ -55,6 +55,9 @@ cast-plus c = search needs
 plus-requires-3 : tie.Need-plus-requires-3 Inv-loop μ-loop
 plus-requires-3 c κs = search needs
 
+same-length : tie.Need-same-length Inv-loop μ-loop
+same-length c = search needs
+
 returns : tie.Need-returns Inv-loop μ-loop
 returns c = search needs
 
@@ -65,9 +68,8 @@ pairs-spec =
     Inv-loop
     μ-loop
     loop-holds
-    wide-requires
     deallocate-session-requires
-    held-requires
+    freed-requires
     plus-requires
     allocate-session-requires
     channel-of-requires
@@ -79,4 +81,5 @@ pairs-spec =
     taken-count-requires
     cast-plus
     plus-requires-3
+    same-length
     returns)

@@ -1,4 +1,4 @@
--- `ticks` is safe and ends: the rounds that are left fall. The frame and the lent bytes stay as long as they were.
+-- `ticks` is safe and ends: the rounds that are left fall. The frame, the tables and the lent bytes stay as long as they were.
 -- Assumes nothing.
 use borrow.Author.Needs.{needs}
 use mathlib.Core.Path.{_≡_}
@@ -7,11 +7,11 @@ use Rattle.bench.proofs.calls.ticks.Statement.{statement}
 use Rattle.bench.proofs.calls.ticks.Tie as tie
 
 abbrev Inv-loop : tie.InvT-loop
-Inv-loop last rounds out₀ frame₀ connection₀ sum₀ channel₀ left₀ out frame connection sum channel left =
-    (length frame ≡ 26) × (length out ≡ length out₀)
+Inv-loop last rounds tables₀ out₀ frame₀ connection₀ sum₀ channel₀ left₀ tables out frame connection sum channel left =
+    (length frame ≡ 26) × ((length tables ≡ length tables₀) × (length out ≡ length out₀))
 
 abbrev μ-loop : tie.MeasureT-loop
-μ-loop last rounds out₀ frame₀ connection₀ sum₀ channel₀ left₀ out frame connection sum channel left =
+μ-loop last rounds tables₀ out₀ frame₀ connection₀ sum₀ channel₀ left₀ tables out frame connection sum channel left =
     left
 
 loop-holds : tie.Need-loop-holds Inv-loop μ-loop
@@ -54,7 +54,7 @@ loop-less : tie.Need-loop-less Inv-loop μ-loop
 loop-less c = search needs
 
 loop-again : tie.Need-loop-again Inv-loop μ-loop
-loop-again c = search needs
+loop-again c = search (needs, c .before .before .before .before .before .before .before .before .before .before .before .before .before .before .before .before .before .before .before .before .loop .inv)
 
 taken-count-requires : tie.Need-taken-count-requires Inv-loop μ-loop
 taken-count-requires c κs = search needs
@@ -67,6 +67,9 @@ plus-requires-3 c κs = search needs
 
 same-length : tie.Need-same-length Inv-loop μ-loop
 same-length c = search needs
+
+same-length-2 : tie.Need-same-length-2 Inv-loop μ-loop
+same-length-2 c = search needs
 
 returns : tie.Need-returns Inv-loop μ-loop
 returns c = search needs
@@ -95,4 +98,5 @@ ticks-spec =
     cast-plus
     plus-requires-3
     same-length
+    same-length-2
     returns)

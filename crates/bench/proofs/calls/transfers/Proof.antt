@@ -1,4 +1,4 @@
--- `transfers` is safe and ends: the rounds that are left fall. The frame stays as long as it was.
+-- `transfers` is safe and ends: the rounds that are left fall. The frame and the tables stay as long as they were.
 -- Assumes nothing.
 use borrow.Author.Needs.{needs}
 use mathlib.Core.Path.{_≡_}
@@ -7,10 +7,12 @@ use Rattle.bench.proofs.calls.transfers.Statement.{statement}
 use Rattle.bench.proofs.calls.transfers.Tie as tie
 
 abbrev Inv-loop : tie.InvT-loop
-Inv-loop last rounds frame₀ connection₀ sum₀ channel₀ left₀ frame connection sum channel left = length frame ≡ 26
+Inv-loop last rounds tables₀ frame₀ connection₀ sum₀ channel₀ left₀ tables frame connection sum channel left =
+    (length frame ≡ 26) × (length tables ≡ length tables₀)
 
 abbrev μ-loop : tie.MeasureT-loop
-μ-loop last rounds frame₀ connection₀ sum₀ channel₀ left₀ frame connection sum channel left = left
+μ-loop last rounds tables₀ frame₀ connection₀ sum₀ channel₀ left₀ tables frame connection sum channel left =
+    left
 
 loop-holds : tie.Need-loop-holds Inv-loop μ-loop
 loop-holds c = search needs
@@ -54,6 +56,9 @@ cast-plus c = search needs
 plus-requires-2 : tie.Need-plus-requires-2 Inv-loop μ-loop
 plus-requires-2 c κs = search needs
 
+same-length : tie.Need-same-length Inv-loop μ-loop
+same-length c = search needs
+
 returns : tie.Need-returns Inv-loop μ-loop
 returns c = search needs
 
@@ -77,4 +82,5 @@ transfers-spec =
     taken-count-requires
     cast-plus
     plus-requires-2
+    same-length
     returns)

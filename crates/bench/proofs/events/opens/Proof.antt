@@ -1,4 +1,4 @@
--- `opens` is safe and ends: the rounds that are left fall. The frame and the lent bytes stay as long as they were.
+-- `opens` is safe and ends: the rounds that are left fall. The frame, the tables and the lent bytes stay as long as they were.
 -- Assumes nothing.
 use borrow.Author.Needs.{needs}
 use mathlib.Core.Path.{_≡_}
@@ -7,11 +7,11 @@ use Rattle.bench.proofs.events.opens.Statement.{statement}
 use Rattle.bench.proofs.events.opens.Tie as tie
 
 abbrev Inv-loop : tie.InvT-loop
-Inv-loop waiting rounds out₀ frame₀ engine₀ sum₀ b₀ left₀ t13 out frame engine sum b left =
-    (length frame ≡ 33) × (length out ≡ length out₀)
+Inv-loop waiting rounds tables₀ out₀ frame₀ engine₀ sum₀ b₀ left₀ t14 tables out frame engine sum b left =
+    (length frame ≡ 33) × ((length tables ≡ length tables₀) × (length out ≡ length out₀))
 
 abbrev μ-loop : tie.MeasureT-loop
-μ-loop waiting rounds out₀ frame₀ engine₀ sum₀ b₀ left₀ t13 out frame engine sum b left =
+μ-loop waiting rounds tables₀ out₀ frame₀ engine₀ sum₀ b₀ left₀ t14 tables out frame engine sum b left =
     left
 
 loop-holds : tie.Need-loop-holds Inv-loop μ-loop
@@ -38,8 +38,8 @@ idle-of-requires c κs = search needs
 plus-requires : tie.Need-plus-requires Inv-loop μ-loop
 plus-requires c κs = search needs
 
-next-requires : tie.Need-next-requires Inv-loop μ-loop
-next-requires c κs = search needs
+after-requires : tie.Need-after-requires Inv-loop μ-loop
+after-requires c κs = search needs
 
 sub-left : tie.Need-sub-left Inv-loop μ-loop
 sub-left c = search needs
@@ -62,6 +62,9 @@ plus-requires-2 c κs = search needs
 same-length : tie.Need-same-length Inv-loop μ-loop
 same-length c = search needs
 
+same-length-2 : tie.Need-same-length-2 Inv-loop μ-loop
+same-length-2 c = search needs
+
 returns : tie.Need-returns Inv-loop μ-loop
 returns c = search needs
 
@@ -79,7 +82,7 @@ opens-spec =
     on-incoming-requires
     idle-of-requires
     plus-requires
-    next-requires
+    after-requires
     sub-left
     loop-less
     loop-again
@@ -87,4 +90,5 @@ opens-spec =
     channel-of-requires
     plus-requires-2
     same-length
+    same-length-2
     returns)

@@ -1,22 +1,20 @@
--- `pairs` is safe and ends: the rounds that are left fall.
+-- `pairs` is safe and ends: the rounds that are left fall. The tables stay as long as they were.
 -- Assumes nothing.
 use borrow.Author.Needs.{needs}
+use mathlib.Core.Path.{_≡_}
+use lib.ListN.{length}
 use Rattle.bench.proofs.events.pairs.Statement.{statement}
 use Rattle.bench.proofs.events.pairs.Tie as tie
 
 abbrev Inv-loop : tie.InvT-loop
-Inv-loop last rounds engine₀ sum₀ channel₀ left₀ engine sum channel left =
-    Unit {0}
+Inv-loop last rounds tables₀ engine₀ sum₀ channel₀ left₀ tables engine sum channel left =
+    length tables ≡ length tables₀
 
 abbrev μ-loop : tie.MeasureT-loop
-μ-loop last rounds engine₀ sum₀ channel₀ left₀ engine sum channel left =
-    left
+μ-loop last rounds tables₀ engine₀ sum₀ channel₀ left₀ tables engine sum channel left = left
 
 loop-holds : tie.Need-loop-holds Inv-loop μ-loop
 loop-holds c = search needs
-
-wide-requires : tie.Need-wide-requires Inv-loop μ-loop
-wide-requires c κs = search needs
 
 on-deallocate-requires : tie.Need-on-deallocate-requires Inv-loop μ-loop
 on-deallocate-requires c κs = search needs
@@ -54,6 +52,9 @@ sessions-requires c κs = search needs
 plus-requires-3 : tie.Need-plus-requires-3 Inv-loop μ-loop
 plus-requires-3 c κs = search needs
 
+same-length : tie.Need-same-length Inv-loop μ-loop
+same-length c = search needs
+
 returns : tie.Need-returns Inv-loop μ-loop
 returns c = search needs
 
@@ -64,7 +65,6 @@ pairs-spec =
     Inv-loop
     μ-loop
     loop-holds
-    wide-requires
     on-deallocate-requires
     freed-requires
     plus-requires
@@ -77,4 +77,5 @@ pairs-spec =
     loop-again
     sessions-requires
     plus-requires-3
+    same-length
     returns)

@@ -1,4 +1,4 @@
--- `transfers` is safe and ends: the rounds that are left fall. The frame and the lent bytes stay as long as they were.
+-- `transfers` is safe and ends: the rounds that are left fall. The frame, the tables and the lent bytes stay as long as they were.
 -- Assumes nothing.
 use borrow.Author.Needs.{needs}
 use mathlib.Core.Path.{_≡_}
@@ -7,11 +7,11 @@ use Rattle.bench.proofs.events.transfers.Statement.{statement}
 use Rattle.bench.proofs.events.transfers.Tie as tie
 
 abbrev Inv-loop : tie.InvT-loop
-Inv-loop last rounds out₀ frame₀ engine₀ sum₀ channel₀ left₀ t12 out frame engine sum channel left =
-    (length frame ≡ 26) × (length out ≡ length out₀)
+Inv-loop last rounds tables₀ out₀ frame₀ engine₀ sum₀ channel₀ left₀ t13 tables out frame engine sum channel left =
+    (length frame ≡ 26) × ((length tables ≡ length tables₀) × (length out ≡ length out₀))
 
 abbrev μ-loop : tie.MeasureT-loop
-μ-loop last rounds out₀ frame₀ engine₀ sum₀ channel₀ left₀ t12 out frame engine sum channel left =
+μ-loop last rounds tables₀ out₀ frame₀ engine₀ sum₀ channel₀ left₀ t13 tables out frame engine sum channel left =
     left
 
 loop-holds : tie.Need-loop-holds Inv-loop μ-loop
@@ -59,6 +59,9 @@ plus-requires-2 c κs = search needs
 same-length : tie.Need-same-length Inv-loop μ-loop
 same-length c = search needs
 
+same-length-2 : tie.Need-same-length-2 Inv-loop μ-loop
+same-length-2 c = search needs
+
 returns : tie.Need-returns Inv-loop μ-loop
 returns c = search needs
 
@@ -83,4 +86,5 @@ transfers-spec =
     sessions-requires
     plus-requires-2
     same-length
+    same-length-2
     returns)

@@ -1,4 +1,4 @@
--- `with_sessions` is safe and ends: each turn begins the session on the next channel. The lent bytes stay as many as they were.
+-- `with_sessions` is safe and ends: each turn begins the session on the next channel. The tables and the lent bytes stay as long as they were.
 -- Assumes nothing.
 use borrow.Author.Needs.{needs}
 use mathlib.Core.Path.{_≡_}
@@ -8,10 +8,11 @@ use Rattle.bench.proofs.setting.with_sessions.Statement.{statement}
 use Rattle.bench.proofs.setting.with_sessions.Tie as tie
 
 abbrev Inv-loop : tie.InvT-loop
-Inv-loop last out₀ hub₀ k₀ out hub k = (k ≤ 256) × (length out ≡ length out₀)
+Inv-loop last tables₀ out₀ hub₀ k₀ tables out hub k =
+    (k ≤ 65536) × ((length tables ≡ length tables₀) × (length out ≡ length out₀))
 
 abbrev μ-loop : tie.MeasureT-loop
-μ-loop last out₀ hub₀ k₀ out hub k = 256 - k
+μ-loop last tables₀ out₀ hub₀ k₀ tables out hub k = 65536 - k
 
 opened-requires : tie.Need-opened-requires Inv-loop μ-loop
 opened-requires c κs = search needs
@@ -40,6 +41,9 @@ loop-again c = search needs
 same-length : tie.Need-same-length Inv-loop μ-loop
 same-length c = search needs
 
+same-length-2 : tie.Need-same-length-2 Inv-loop μ-loop
+same-length-2 c = search needs
+
 returns : tie.Need-returns Inv-loop μ-loop
 returns c = search needs
 
@@ -58,4 +62,5 @@ with-sessions-spec =
     loop-less
     loop-again
     same-length
+    same-length-2
     returns)

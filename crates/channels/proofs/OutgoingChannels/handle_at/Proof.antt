@@ -1,17 +1,45 @@
--- `channels::OutgoingChannels::handle_at` meets its contract: the taken numbers are those that have handles.
+-- `channels::OutgoingChannels::handle_at` meets its contract: a law for each return.
 -- Assumes nothing.
-use Rattle.channels.proofs.Steps.{found}
 use borrow.Author.Needs.{needs}
+use borrow.Author.Tests.{not-true, not-false}
+use Rattle.channels.proofs.Fields.{has-true}
+use Rattle.channels.proofs.Steps.{found-past, found-short, found-free, found-taken}
 use Rattle.channels.proofs.OutgoingChannels.handle_at.Statement.{statement}
 use Rattle.channels.proofs.OutgoingChannels.handle_at.Tie as tie
 
-ruleset steps = (found, needs)
-
-get-requires : tie.Need-get-requires
-get-requires c κs = search needs
+wide-requires : tie.Need-wide-requires
+wide-requires c κs = search needs
 
 returns : tie.Need-returns
-returns c = search steps
+returns c = search (found-past, needs)
+
+has-requires : tie.Need-has-requires
+has-requires c κs = search needs
+
+returns-2 : tie.Need-returns-2
+returns-2 c = search (found-short, not-true, needs)
+
+field-requires : tie.Need-field-requires
+field-requires c κs = search (has-true, not-false, needs)
+
+returns-3 : tie.Need-returns-3
+returns-3 c = search (found-free, needs)
+
+field-requires-2 : tie.Need-field-requires-2
+field-requires-2 c κs = (has-true _ _ _ (c .before .before .before .has .ensures) (not-false _ (c .before .before .if2 .left)), search needs)
+
+returns-4 : tie.Need-returns-4
+returns-4 c = search (found-taken, needs)
 
 pub handle-at-spec : {M : Type 1} → statement M
-handle-at-spec = tie.close (tie.spec get-requires returns)
+handle-at-spec =
+    tie.close
+    (tie.spec
+    wide-requires
+    returns
+    has-requires
+    returns-2
+    field-requires
+    returns-3
+    field-requires-2
+    returns-4)

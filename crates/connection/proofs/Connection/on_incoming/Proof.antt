@@ -35,6 +35,9 @@ returns-3 c = search (by-open, needs)
 on-incoming-session-requires : tie.Need-on-incoming-session-requires
 on-incoming-session-requires c κs = search needs
 
+same-length : tie.Need-same-length
+same-length c = search needs
+
 returns-4 : tie.Need-returns-4
 returns-4 c = search (by-session, needs)
 
@@ -52,4 +55,5 @@ on-incoming-spec =
     on-incoming-open-requires
     returns-3
     on-incoming-session-requires
+    same-length
     returns-4)

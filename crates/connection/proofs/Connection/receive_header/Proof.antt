@@ -1,7 +1,7 @@
 -- `receive_header`: one law for each header that can come.
 -- Assumes nothing.
 use borrow.Author.Needs.{needs}
-use Rattle.connection.proofs.Sessions.{header-amqp, header-other, header-malformed, header-missing}
+use Rattle.connection.proofs.Reading.{header-amqp, header-other, header-malformed, header-missing}
 use Rattle.connection.proofs.Connection.receive_header.Statement.{statement}
 use Rattle.connection.proofs.Connection.receive_header.Tie as tie
 

@@ -1,7 +1,7 @@
 -- `tick`: what the heartbeat does.
 -- Assumes nothing.
 use borrow.Author.Needs.{needs}
-use Rattle.connection.proofs.Sessions.{beats-does}
+use Rattle.connection.proofs.Writing.{beats-does}
 use Rattle.connection.proofs.Connection.tick.Statement.{statement}
 use Rattle.connection.proofs.Connection.tick.Tie as tie
 

@@ -10,8 +10,11 @@ ruleset steps = (allocated, needs)
 allocate-requires : tie.Need-allocate-requires
 allocate-requires c κs = search needs
 
+same-length : tie.Need-same-length
+same-length c = search needs
+
 returns : tie.Need-returns
 returns c = search steps
 
 pub allocate-spec : {M : Type 1} → statement M
-allocate-spec = tie.close (tie.spec allocate-requires returns)
+allocate-spec = tie.close (tie.spec allocate-requires same-length returns)

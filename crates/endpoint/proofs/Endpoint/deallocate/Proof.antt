@@ -10,8 +10,11 @@ ruleset steps = (deallocated, needs)
 deallocate-requires : tie.Need-deallocate-requires
 deallocate-requires c κs = search needs
 
+same-length : tie.Need-same-length
+same-length c = search needs
+
 returns : tie.Need-returns
 returns c = search steps
 
 pub deallocate-spec : {M : Type 1} → statement M
-deallocate-spec = tie.close (tie.spec deallocate-requires returns)
+deallocate-spec = tie.close (tie.spec deallocate-requires same-length returns)

@@ -16,6 +16,9 @@ enum-told c = search needs
 on-new-session-requires : tie.Need-on-new-session-requires
 on-new-session-requires c κs = search needs
 
+same-length : tie.Need-same-length
+same-length c = search needs
+
 returns : tie.Need-returns
 returns c = search steps
 
@@ -31,14 +34,20 @@ enum-told-2 c = search needs
 refused-requires : tie.Need-refused-requires
 refused-requires c κs = search needs
 
+same-length-2 : tie.Need-same-length-2
+same-length-2 c = search needs
+
 returns-2 : tie.Need-returns-2
 returns-2 c = search steps
 
-insert-requires : tie.Need-insert-requires
-insert-requires c κs = search needs
+tie-requires : tie.Need-tie-requires
+tie-requires c κs = search needs
 
 forward-requires : tie.Need-forward-requires
 forward-requires c κs = search needs
+
+same-length-3 : tie.Need-same-length-3
+same-length-3 c = search needs
 
 returns-3 : tie.Need-returns-3
 returns-3 c = search steps
@@ -50,12 +59,15 @@ on-incoming-begin-spec =
     enum-known-remote
     enum-told
     on-new-session-requires
+    same-length
     returns
     handle-at-requires
     enum-known-handle
     enum-told-2
     refused-requires
+    same-length-2
     returns-2
-    insert-requires
+    tie-requires
     forward-requires
+    same-length-3
     returns-3)

@@ -7,11 +7,8 @@ use Rattle.endpoint.proofs.Endpoint.on_incoming_end.Tie as tie
 
 ruleset steps = (not-untied, untied, needs)
 
-cast-get : tie.Need-cast-get
-cast-get c = search needs
-
-get-requires : tie.Need-get-requires
-get-requires c κs = search needs
+tied-handle-requires : tie.Need-tied-handle-requires
+tied-handle-requires c κs = search needs
 
 enum-known-handle : tie.Need-enum-known-handle
 enum-known-handle c = search needs
@@ -22,14 +19,20 @@ enum-told c = search needs
 refused-requires : tie.Need-refused-requires
 refused-requires c κs = search needs
 
+same-length : tie.Need-same-length
+same-length c = search needs
+
 returns : tie.Need-returns
 returns c = search steps
 
-remove-requires : tie.Need-remove-requires
-remove-requires c κs = search needs
+untie-requires : tie.Need-untie-requires
+untie-requires c κs = search needs
 
 forward-requires : tie.Need-forward-requires
 forward-requires c κs = search needs
+
+same-length-2 : tie.Need-same-length-2
+same-length-2 c = search needs
 
 returns-2 : tie.Need-returns-2
 returns-2 c = search steps
@@ -38,12 +41,13 @@ pub on-incoming-end-spec : {M : Type 1} → statement M
 on-incoming-end-spec =
     tie.close
     (tie.spec
-    cast-get
-    get-requires
+    tied-handle-requires
     enum-known-handle
     enum-told
     refused-requires
+    same-length
     returns
-    remove-requires
+    untie-requires
     forward-requires
+    same-length-2
     returns-2)

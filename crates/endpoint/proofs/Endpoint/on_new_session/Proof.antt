@@ -28,17 +28,20 @@ enum-known-answer c = search needs
 refused-requires-2 : tie.Need-refused-requires-2
 refused-requires-2 c κs = search needs
 
+same-length : tie.Need-same-length
+same-length c = search needs
+
 returns-2 : tie.Need-returns-2
 returns-2 c = search steps
 
-cast-number : tie.Need-cast-number
-cast-number c = search needs
-
-insert-requires : tie.Need-insert-requires
-insert-requires c κs = search needs
+tie-requires : tie.Need-tie-requires
+tie-requires c κs = search needs
 
 body-len-requires : tie.Need-body-len-requires
 body-len-requires c κs = search needs
+
+same-length-2 : tie.Need-same-length-2
+same-length-2 c = search needs
 
 returns-3 : tie.Need-returns-3
 returns-3 c = search steps
@@ -54,8 +57,9 @@ on-new-session-spec =
     allocate-requires
     enum-known-answer
     refused-requires-2
+    same-length
     returns-2
-    cast-number
-    insert-requires
+    tie-requires
     body-len-requires
+    same-length-2
     returns-3)

@@ -1,7 +1,7 @@
 -- `endpoint::Endpoint::open` meets its contract: the limits and the channel-max are what the two ends said.
 -- Assumes nothing.
 use borrow.Author.Needs.{needs}
-use Rattle.endpoint.proofs.Receiving.{agreed}
+use Rattle.endpoint.proofs.Opening.{agreed}
 use Rattle.endpoint.proofs.Endpoint.open.Statement.{statement}
 use Rattle.endpoint.proofs.Endpoint.open.Tie as tie
 

@@ -1,7 +1,7 @@
 -- `endpoint::Endpoint::outgoing_tie` meets its contract: a law for each of the five returns.
 -- Assumes nothing.
 use borrow.Author.Needs.{needs}
-use Rattle.endpoint.proofs.Outgoing.{tie-dialler, tie-other, tie-unnamed, tie-not, tie-to}
+use Rattle.endpoint.proofs.Sending.{tie-dialler, tie-other, tie-unnamed, tie-not, tie-to}
 use Rattle.endpoint.proofs.Endpoint.outgoing_tie.Statement.{statement}
 use Rattle.endpoint.proofs.Endpoint.outgoing_tie.Tie as tie
 

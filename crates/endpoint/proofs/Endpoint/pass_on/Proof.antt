@@ -7,11 +7,8 @@ use Rattle.endpoint.proofs.Endpoint.pass_on.Tie as tie
 
 ruleset steps = (not-passed, passed, needs)
 
-cast-get : tie.Need-cast-get
-cast-get c = search needs
-
-get-requires : tie.Need-get-requires
-get-requires c κs = search needs
+tied-handle-requires : tie.Need-tied-handle-requires
+tied-handle-requires c κs = search needs
 
 enum-known-handle : tie.Need-enum-known-handle
 enum-known-handle c = search needs
@@ -35,8 +32,7 @@ pub pass-on-spec : {M : Type 1} → statement M
 pass-on-spec =
     tie.close
     (tie.spec
-    cast-get
-    get-requires
+    tied-handle-requires
     enum-known-handle
     enum-told
     refused-requires

@@ -1,7 +1,7 @@
 -- `endpoint::Endpoint::write_tied` meets its contract: 24, the refusals of writing, and then the tie.
 -- Assumes nothing.
 use borrow.Author.Needs.{needs}
-use Rattle.endpoint.proofs.Outgoing.{writes-24, writes-not, writes-yes}
+use Rattle.endpoint.proofs.Sending.{writes-24, writes-not, writes-yes}
 use Rattle.endpoint.proofs.Endpoint.write_tied.Statement.{statement}
 use Rattle.endpoint.proofs.Endpoint.write_tied.Tie as tie
 
@@ -31,11 +31,14 @@ same-length c = search needs
 returns-2 : tie.Need-returns-2
 returns-2 c = search steps
 
-tied-requires : tie.Need-tied-requires
-tied-requires c κs = search needs
+make-tie-requires : tie.Need-make-tie-requires
+make-tie-requires c κs = search needs
 
 same-length-2 : tie.Need-same-length-2
 same-length-2 c = search needs
+
+same-length-3 : tie.Need-same-length-3
+same-length-3 c = search needs
 
 returns-3 : tie.Need-returns-3
 returns-3 c = search steps
@@ -52,6 +55,7 @@ write-tied-spec =
     enum-told-2
     same-length
     returns-2
-    tied-requires
+    make-tie-requires
     same-length-2
+    same-length-3
     returns-3)

@@ -8,14 +8,11 @@ use Rattle.engine.proofs.ConnectionEngine.is_answered.Tie as tie
 enum-told : tie.Need-enum-told
 enum-told c = search needs
 
-channel-max-requires : tie.Need-channel-max-requires
-channel-max-requires c κs = search needs
-
-cast-highest : tie.Need-cast-highest
-cast-highest c = search needs
-
 reading-limit-requires : tie.Need-reading-limit-requires
 reading-limit-requires c κs = search needs
+
+channel-max-requires : tie.Need-channel-max-requires
+channel-max-requires c κs = search needs
 
 is-close-requires : tie.Need-is-close-requires
 is-close-requires c κs = search needs
@@ -31,9 +28,8 @@ is-answered-spec =
     tie.close
     (tie.spec
     enum-told
-    channel-max-requires
-    cast-highest
     reading-limit-requires
+    channel-max-requires
     is-close-requires
     returns
     returns-2)

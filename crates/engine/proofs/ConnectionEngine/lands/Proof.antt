@@ -26,14 +26,17 @@ answer-close-requires c κs = search needs
 same-length : tie.Need-same-length
 same-length c = search needs
 
+same-length-2 : tie.Need-same-length-2
+same-length-2 c = search needs
+
 returns-2 : tie.Need-returns-2
 returns-2 c = search (took-answered, needs)
 
 read-to-requires : tie.Need-read-to-requires
 read-to-requires c κs = search needs
 
-same-length-2 : tie.Need-same-length-2
-same-length-2 c = search needs
+same-length-3 : tie.Need-same-length-3
+same-length-3 c = search needs
 
 returns-3 : tie.Need-returns-3
 returns-3 c = search (took-read, needs)
@@ -49,7 +52,8 @@ lands-spec =
     is-answered-requires
     answer-close-requires
     same-length
+    same-length-2
     returns-2
     read-to-requires
-    same-length-2
+    same-length-3
     returns-3)

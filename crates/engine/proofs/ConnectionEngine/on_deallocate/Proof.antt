@@ -1,28 +1,58 @@
--- `on_deallocate`: 20, what the connection refuses, and what it does.
+-- `on_deallocate`: 8, 20, what the connection refuses, and what it does.
 -- Assumes nothing.
 use borrow.Author.Needs.{needs}
-use Rattle.engine.proofs.Bare.{bare-on}
-use Rattle.engine.proofs.Well.{deallocate-20, deallocate-refused, deallocate-done}
+use Rattle.engine.proofs.Bare.{bare-on, bare-not}
+use Rattle.engine.proofs.Well.{deallocate-8, deallocate-20, deallocate-refused, deallocate-done}
 use Rattle.engine.proofs.ConnectionEngine.on_deallocate.Statement.{statement}
 use Rattle.engine.proofs.ConnectionEngine.on_deallocate.Tie as tie
+
+is-covered-requires : tie.Need-is-covered-requires
+is-covered-requires c κs = search needs
+
+not-deallocated-requires : tie.Need-not-deallocated-requires
+not-deallocated-requires c κs = search needs
+
+same-length : tie.Need-same-length
+same-length c = search needs
+
+returns : tie.Need-returns
+returns c =
+    let n = c .not-deallocated .ensures in
+    (deallocate-8 _ _ _ (c .before .before .is-covered .ensures) _ (c .not-deallocated .result) (c .before .if1 .taken) (n .0, n .2), search (bare-not, needs))
 
 is-ending-requires : tie.Need-is-ending-requires
 is-ending-requires c κs = search needs
 
-returns : tie.Need-returns
-returns c = search (deallocate-20, needs)
+not-deallocated-requires-2 : tie.Need-not-deallocated-requires-2
+not-deallocated-requires-2 c κs = search needs
+
+same-length-2 : tie.Need-same-length-2
+same-length-2 c = search needs
+
+returns-2 : tie.Need-returns-2
+returns-2 c =
+    let n = c .not-deallocated2 .ensures in
+    (deallocate-20 _ _ _ (c .before .before .before .before .is-covered .ensures) _ (c .before .before .is-ending .ensures) _ (c .not-deallocated2 .result) (c .before .before .before .if1 .left) (c .before .if2 .taken) (n .0, n .2), search (bare-not, needs))
 
 deallocate-session-requires : tie.Need-deallocate-session-requires
 deallocate-session-requires c κs = search needs
 
-enum-known-held : tie.Need-enum-known-held
-enum-known-held c = search needs
+enum-known-answer : tie.Need-enum-known-answer
+enum-known-answer c = search needs
+
+not-deallocated-requires-3 : tie.Need-not-deallocated-requires-3
+not-deallocated-requires-3 c κs = search needs
+
+same-length-3 : tie.Need-same-length-3
+same-length-3 c = search needs
+
+returns-3 : tie.Need-returns-3
+returns-3 c =
+    let n = c .not-deallocated3 .ensures in
+    (deallocate-refused _ _ _ (c .before .before .before .before .before .before .before .before .before .before .before .is-covered .ensures) _ (c .before .before .before .before .before .before .before .before .before .is-ending .ensures) _ _ _ _ _ (c .not-deallocated3 .result) (c .before .before .before .before .before .before .before .before .before .before .if1 .left) (c .before .before .before .before .before .before .before .before .if2 .left) (c .before .before .before .before .before .before .deallocate-session .ensures) (c .before .before .answer .given .1) (n .0, n .2), search (bare-not, needs))
 
 enum-told : tie.Need-enum-told
 enum-told c = search needs
-
-returns-2 : tie.Need-returns-2
-returns-2 c = search (deallocate-refused, needs)
 
 settle-requires : tie.Need-settle-requires
 settle-requires c κs = search needs
@@ -30,19 +60,32 @@ settle-requires c κs = search needs
 running-requires : tie.Need-running-requires
 running-requires c κs = search needs
 
-returns-3 : tie.Need-returns-3
-returns-3 c = search (deallocate-done, bare-on, needs)
+same-length-4 : tie.Need-same-length-4
+same-length-4 c = search needs
+
+returns-4 : tie.Need-returns-4
+returns-4 c =
+    (deallocate-done _ _ _ (c .before .before .before .before .before .before .before .before .before .before .before .is-covered .ensures) _ (c .before .before .before .before .before .before .before .before .before .is-ending .ensures) _ (c .before .before .before .before .before .before .deallocate-session .result .answer) _ _ _ _ (c .before .before .before .before .before .before .before .before .before .before .if1 .left) (c .before .before .before .before .before .before .before .before .if2 .left) (c .before .before .before .before .before .before .deallocate-session .ensures) (c .before .before .before .match .keys2) (c .before .settle .ensures) (c .running .ensures), search (bare-on, needs))
 
 pub on-deallocate-spec : {M : Type 1} → statement M
 on-deallocate-spec =
     tie.close
     (tie.spec
-    is-ending-requires
+    is-covered-requires
+    not-deallocated-requires
+    same-length
     returns
-    deallocate-session-requires
-    enum-known-held
-    enum-told
+    is-ending-requires
+    not-deallocated-requires-2
+    same-length-2
     returns-2
+    deallocate-session-requires
+    enum-known-answer
+    not-deallocated-requires-3
+    same-length-3
+    returns-3
+    enum-told
     settle-requires
     running-requires
-    returns-3)
+    same-length-4
+    returns-4)

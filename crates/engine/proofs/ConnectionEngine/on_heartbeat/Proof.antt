@@ -34,7 +34,9 @@ same-length : tie.Need-same-length
 same-length c = search needs
 
 returns-3 : tie.Need-returns-3
-returns-3 c = search (tick-refused, bare-not, needs)
+returns-3 c =
+    let n = c .no-heartbeat3 .ensures in
+    (tick-refused _ _ (c .before .before .before .before .before .before .before .before .before .before .is-ending .ensures) _ _ _ _ _ (c .no-heartbeat3 .result) (c .before .before .before .before .before .before .before .before .before .if2 .left) (c .before .before .before .before .before .before .tick .ensures) (c .before .before .answer .given .1) (n .0, n .1), search (bare-not, needs))
 
 settle-requires : tie.Need-settle-requires
 settle-requires c κs = search needs

@@ -18,10 +18,10 @@ enum-told-2 : tie.Need-enum-told-2
 enum-told-2 c = search needs
 
 returns-3 : tie.Need-returns-3
-returns-3 c = search (read-dialler, read-listener, needs)
+returns-3 c = search (read-dialler, needs)
 
 returns-4 : tie.Need-returns-4
-returns-4 c = search (read-dialler, read-listener, needs)
+returns-4 c = search (read-listener, needs)
 
 returns-5 : tie.Need-returns-5
 returns-5 c = search (read-transport, needs)

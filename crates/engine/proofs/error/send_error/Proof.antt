@@ -1,5 +1,7 @@
 -- `send_error`: one Close for each error.
 -- Assumes nothing.
+use mathlib.Core.Path.{refl}
+use native.Mathlib.Omega.{arith}
 use borrow.Author.Needs.{needs}
 use Rattle.engine.proofs.Errors.{told-nothing, told}
 use Rattle.engine.proofs.error.send_error.Statement.{statement}
@@ -87,37 +89,37 @@ same-length : tie.Need-same-length
 same-length c = search needs
 
 returns-2 : tie.Need-returns-2
-returns-2 c = search (told, needs)
+returns-2 c = told _ _ _ _ _ 1 (c .before .before .before .before .before .before .before .before .before .args .error) _ (c .before .before .before .before .before .before .before .match .keys2) (omega arith) refl (c .before .before .send-close-with-error .ensures)
 
 same-length-2 : tie.Need-same-length-2
 same-length-2 c = search needs
 
 returns-3 : tie.Need-returns-3
-returns-3 c = search (told, needs)
+returns-3 c = told _ _ _ _ _ 2 (c .before .before .before .before .before .before .before .before .before .args .error) _ (c .before .before .before .before .before .before .before .match .keys3) (omega arith) refl (c .before .before .send-close-with-error2 .ensures)
 
 same-length-3 : tie.Need-same-length-3
 same-length-3 c = search needs
 
 returns-4 : tie.Need-returns-4
-returns-4 c = search (told, needs)
+returns-4 c = told _ _ _ _ _ 3 (c .before .before .before .before .before .before .before .before .before .args .error) _ (c .before .before .before .before .before .before .before .match .keys4) (omega arith) refl (c .before .before .send-close-with-error3 .ensures)
 
 same-length-4 : tie.Need-same-length-4
 same-length-4 c = search needs
 
 returns-5 : tie.Need-returns-5
-returns-5 c = search (told, needs)
+returns-5 c = told _ _ _ _ _ 4 (c .before .before .before .before .before .before .before .before .before .args .error) _ (c .before .before .before .before .before .before .before .match .keys5) (omega arith) refl (c .before .before .send-close-with-error4 .ensures)
 
 same-length-5 : tie.Need-same-length-5
 same-length-5 c = search needs
 
 returns-6 : tie.Need-returns-6
-returns-6 c = search (told, needs)
+returns-6 c = told _ _ _ _ _ 5 (c .before .before .before .before .before .before .before .before .before .args .error) _ (c .before .before .before .before .before .before .before .match .keys6) (omega arith) refl (c .before .before .send-close-with-error5 .ensures)
 
 same-length-6 : tie.Need-same-length-6
 same-length-6 c = search needs
 
 returns-7 : tie.Need-returns-7
-returns-7 c = search (told, needs)
+returns-7 c = told _ _ _ _ _ 6 (c .before .before .before .before .before .before .before .before .before .args .error) _ (c .before .before .before .before .before .before .before .match .keys7) (omega arith) refl (c .before .before .send-close-with-error6 .ensures)
 
 pub send-error-spec : {M : Type 1} → statement M
 send-error-spec =

@@ -8,10 +8,10 @@ use Rattle.engine.proofs.sending.send_waiting.Tie as tie
 ruleset steps = (going-start, drained-stop, going-on, drained-all, needs)
 
 abbrev Inv-loop : tie.InvT-loop
-Inv-loop waiting count out₀ sender₀ at₀ left₀ written₀ last₀ out sender at left written last = Going sender₀ count waiting out₀ out sender at left written last
+Inv-loop tables₀ waiting count out₀ sender₀ at₀ left₀ written₀ last₀ tables out sender at left written last = Going sender₀ tables₀ count waiting out₀ out sender tables at left written last
 
 abbrev μ-loop : tie.MeasureT-loop
-μ-loop waiting count out₀ sender₀ at₀ left₀ written₀ last₀ out sender at left written last = left
+μ-loop tables₀ waiting count out₀ sender₀ at₀ left₀ written₀ last₀ tables out sender at left written last = left
 
 loop-holds : tie.Need-loop-holds Inv-loop μ-loop
 loop-holds c = search steps
@@ -58,6 +58,9 @@ enum-told c = search steps
 same-length : tie.Need-same-length Inv-loop μ-loop
 same-length c = search steps
 
+same-length-2 : tie.Need-same-length-2 Inv-loop μ-loop
+same-length-2 c = search steps
+
 returns : tie.Need-returns Inv-loop μ-loop
 returns c = search steps
 
@@ -76,8 +79,11 @@ loop-less c = search steps
 loop-again : tie.Need-loop-again Inv-loop μ-loop
 loop-again c = search steps
 
-same-length-2 : tie.Need-same-length-2 Inv-loop μ-loop
-same-length-2 c = search steps
+same-length-3 : tie.Need-same-length-3 Inv-loop μ-loop
+same-length-3 c = search steps
+
+same-length-4 : tie.Need-same-length-4 Inv-loop μ-loop
+same-length-4 c = search steps
 
 returns-2 : tie.Need-returns-2 Inv-loop μ-loop
 returns-2 c = search steps
@@ -103,11 +109,13 @@ send-waiting-spec =
     enum-known-answer
     enum-told
     same-length
+    same-length-2
     returns
     advanced-requires
     sub-left
     advanced-requires-2
     loop-less
     loop-again
-    same-length-2
+    same-length-3
+    same-length-4
     returns-2)

@@ -8,9 +8,6 @@ use Rattle.hisproat.proofs.answers.allocate_inner.Tie as tie
 enum-known-answer : tie.Need-enum-known-answer
 enum-known-answer c = search needs
 
-cast-t5 : tie.Need-cast-t5
-cast-t5 c = search needs
-
 enum-known-answer-2 : tie.Need-enum-known-answer-2
 enum-known-answer-2 c = search needs
 
@@ -25,5 +22,4 @@ returns-2 c = search (no-channel-inner, needs)
 
 pub allocate-inner-spec : {M : Type 1} → statement M
 allocate-inner-spec =
-    tie.close
-    (tie.spec enum-known-answer cast-t5 enum-known-answer-2 plain-requires returns returns-2)
+    tie.close (tie.spec enum-known-answer enum-known-answer-2 plain-requires returns returns-2)

@@ -26,4 +26,10 @@ returns-2 c = search (unfreed-inner, needs)
 pub deallocate-inner-spec : {M : Type 1} → statement M
 deallocate-inner-spec =
     tie.close
-    (tie.spec enum-known-answer numbered-requires enum-known-answer-2 plain-requires returns returns-2)
+    (tie.spec
+    enum-known-answer
+    numbered-requires
+    enum-known-answer-2
+    plain-requires
+    returns
+    returns-2)

@@ -1,15 +1,14 @@
--- `handles` is safe and ends: there are eight turns.
+-- `handles` is safe and ends: the channels that are left to tell of fall.
 -- Assumes nothing.
 use borrow.Author.Needs.{needs}
-use Prim.Native.Nat.{_-_}
 use Rattle.life.proofs.calls.handles.Statement.{statement}
 use Rattle.life.proofs.calls.handles.Tie as tie
 
 abbrev Inv-loop : tie.InvT-loop
-Inv-loop connection tied k₀ k = Unit {0}
+Inv-loop connection tables tied first count k₀ left₀ k left = Unit {0}
 
 abbrev μ-loop : tie.MeasureT-loop
-μ-loop connection tied k₀ k = 8 - k
+μ-loop connection tables tied first count k₀ left₀ k left = left
 
 loop-holds : tie.Need-loop-holds Inv-loop μ-loop
 loop-holds c = search needs
@@ -20,8 +19,14 @@ handle-requires c κs = search needs
 entry-requires : tie.Need-entry-requires Inv-loop μ-loop
 entry-requires c κs = search needs
 
+returns : tie.Need-returns Inv-loop μ-loop
+returns c = search needs
+
 add-k : tie.Need-add-k Inv-loop μ-loop
 add-k c = search needs
+
+sub-left : tie.Need-sub-left Inv-loop μ-loop
+sub-left c = search needs
 
 loop-less : tie.Need-loop-less Inv-loop μ-loop
 loop-less c = search needs
@@ -29,8 +34,8 @@ loop-less c = search needs
 loop-again : tie.Need-loop-again Inv-loop μ-loop
 loop-again c = search needs
 
-returns : tie.Need-returns Inv-loop μ-loop
-returns c = search needs
+returns-2 : tie.Need-returns-2 Inv-loop μ-loop
+returns-2 c = search needs
 
 pub handles-spec : {M : Type 1} → statement M
 handles-spec =
@@ -41,7 +46,9 @@ handles-spec =
     loop-holds
     handle-requires
     entry-requires
+    returns
     add-k
+    sub-left
     loop-less
     loop-again
-    returns)
+    returns-2)

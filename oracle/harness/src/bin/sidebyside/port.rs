@@ -4,10 +4,12 @@ use std::hint::black_box;
 
 #[cfg(feature = "frame-reader")]
 use crate::stream::session_of;
-use crate::stream::{Stream, Tally, CHANNEL_MAX, HEADER, MAX_FRAME_SIZE};
+use crate::stream::{Stream, Tally, HEADER, MAX_FRAME_SIZE};
 use crate::Contender;
 
-const STATE: usize = 3102;
+/// The fixed part of a state, and a channel's place in its tables.
+const FIXED: usize = 300;
+const PLACE: usize = 28;
 const ROOM: usize = 16384;
 const OPENED: u8 = 7;
 const FORWARD: u8 = 9;
@@ -62,11 +64,11 @@ impl Contender for Codec {
     }
 
     fn read(&mut self, stream: &Stream) {
-        let mut rest = stream.measured();
+        let (mut rest, highest) = (stream.measured(), stream.channel_max());
         let mut answer = [0; 27];
         while !rest.is_empty() {
             // The slices are whole and apart from each other.
-            let refused = unsafe { hisproat_read_frame(rest.as_ptr(), rest.len(), MAX_FRAME_SIZE, CHANNEL_MAX, answer.as_mut_ptr(), 27) };
+            let refused = unsafe { hisproat_read_frame(rest.as_ptr(), rest.len(), MAX_FRAME_SIZE, highest, answer.as_mut_ptr(), 27) };
             assert_eq!(refused, 0, "a good frame");
             // The size has 32 bits: the last four of its bytes.
             let (body, end, size) = (number(&answer[3..11]), number(&answer[11..19]), number(&answer[23..]));
@@ -85,23 +87,25 @@ impl Contender for Codec {
 
 /// Each frame is an event of an engine whose state is lent bytes.
 pub struct Port {
-    state: [u8; STATE],
+    state: Vec<u8>,
     output: [u8; ROOM],
     answer: [u8; 42],
     tally: Tally,
 }
 
-impl Port {
-    pub fn new() -> Self {
-        Port { state: [0; STATE], output: [0; ROOM], answer: [0; 42], tally: Tally::default() }
+impl Default for Port {
+    fn default() -> Self {
+        Port { state: Vec::new(), output: [0; ROOM], answer: [0; 42], tally: Tally::default() }
     }
+}
 
+impl Port {
     /// A frame at the front of the bytes came. Answers what became of it.
     fn incoming(&mut self, bytes: &[u8], spare: u32) -> u8 {
         let (s, o, a) = (self.state.as_mut_ptr(), self.output.as_mut_ptr(), self.answer.as_mut_ptr());
-        let none: &[u8] = b"";
+        let (n, none) = (self.state.len(), b"");
         // The slices are whole and apart from each other.
-        let refused = unsafe { hisproat_on_incoming(s, STATE, bytes.as_ptr(), bytes.len(), spare, none.as_ptr(), 0, o, ROOM, a, 42) };
+        let refused = unsafe { hisproat_on_incoming(s, n, bytes.as_ptr(), bytes.len(), spare, none.as_ptr(), 0, o, ROOM, a, 42) };
         assert_eq!(refused, 0, "a good frame");
         self.answer[2]
     }
@@ -109,15 +113,17 @@ impl Port {
 
 impl Contender for Port {
     fn set_up(&mut self, stream: &Stream) {
-        *self = Port::new();
-        let (s, o, a) = (self.state.as_mut_ptr(), self.output.as_mut_ptr(), self.answer.as_mut_ptr());
+        let highest = stream.channel_max();
+        *self = Port { state: vec![0; FIXED + PLACE * (highest as usize + 1)], ..Port::default() };
+        let (s, n) = (self.state.as_mut_ptr(), self.state.len());
+        let (o, a) = (self.output.as_mut_ptr(), self.answer.as_mut_ptr());
         // The slices are whole and apart from each other.
         let refused = unsafe {
             [
-                hisproat_listener(s, STATE, b"hub".as_ptr(), 3, MAX_FRAME_SIZE, CHANNEL_MAX, 0, 0),
-                hisproat_receive_header(s, STATE, HEADER.as_ptr(), HEADER.len(), a, 42),
-                hisproat_send_header(s, STATE, o, ROOM, a, 42),
-                hisproat_send_open(s, STATE, o, ROOM, a, 42),
+                hisproat_listener(s, n, b"hub".as_ptr(), 3, MAX_FRAME_SIZE, highest, 0, 0),
+                hisproat_receive_header(s, n, HEADER.as_ptr(), HEADER.len(), a, 42),
+                hisproat_send_header(s, n, o, ROOM, a, 42),
+                hisproat_send_open(s, n, o, ROOM, a, 42),
             ]
         };
         assert_eq!(refused, [0; 4], "an opening");

@@ -3,7 +3,7 @@
 use std::ffi::{c_char, c_int, CStr};
 use std::ptr::null_mut;
 
-use crate::stream::{session_of, Stream, Tally, MAX_FRAME_SIZE, OPENING, SESSIONS};
+use crate::stream::{session_of, Stream, Tally, MAX_FRAME_SIZE, SESSIONS};
 use crate::Contender;
 
 /// So many bytes are pushed at a time, as a socket would give them.
@@ -138,7 +138,7 @@ impl Contender for Engine {
 
     fn check(&mut self, stream: &Stream) {
         let frames = unsafe { pn_transport_get_frames_input(self.transport) };
-        self.tally.others = frames - (OPENING + stream.transfers.len()) as u64;
+        self.tally.others = frames - (stream.before() + stream.transfers.len()) as u64;
         assert_eq!(self.tally, stream.payloads(), "what Proton's engine saw");
     }
 }

@@ -2,7 +2,7 @@
 
 use fe2o3_amqp::auth::{Event, Inner, Mode, Oracle, Role, Settings};
 
-use crate::stream::{Stream, Tally, CHANNEL_MAX, HEADER, MAX_FRAME_SIZE};
+use crate::stream::{Stream, Tally, HEADER, MAX_FRAME_SIZE};
 use crate::Contender;
 
 /// Each frame is an event of the oracle.
@@ -15,7 +15,7 @@ pub struct Rust {
 impl Contender for Rust {
     fn set_up(&mut self, stream: &Stream) {
         let (container_id, max_frame_size) = (b"hub".to_vec(), MAX_FRAME_SIZE);
-        let settings = Settings { container_id, max_frame_size, channel_max: CHANNEL_MAX, idle_time_out: None };
+        let settings = Settings { container_id, max_frame_size, channel_max: stream.channel_max(), idle_time_out: None };
         let mut oracle = Oracle::new(Role::Listener, &settings, Mode::Calls);
         for event in [Event::ReceiveHeader(HEADER), Event::SendHeader, Event::SendOpen] {
             oracle.event(event);

@@ -4,22 +4,22 @@ use std::ops::Range;
 
 use crate::events::{body, frame, ushort};
 
+/// So many sessions has the stream that everybody reads.
 pub const SESSIONS: usize = 8;
 pub const MAX_FRAME_SIZE: u32 = 4096;
-pub const CHANNEL_MAX: u16 = 255;
 pub const HEADER: &[u8] = b"AMQP\x00\x01\x00\x00";
-pub const OPENING: usize = 1 + 2 * SESSIONS;
 
 /// The peer's channel of a session. The link on it has the session's number as its handle.
 fn channel_of(session: usize) -> u16 {
-    2 * session as u16 + 1
+    session as u16 + 1
 }
 
 pub fn session_of(channel: u16) -> usize {
-    channel as usize / 2
+    channel as usize - 1
 }
 
 /// What was seen: of each session how many Transfers, and a digest of their lengths and last bytes in order; and how many other frames.
+/// Of more than eight sessions several are counted together, with their numbers in the digest.
 #[derive(Debug, Default, PartialEq, Eq)]
 pub struct Tally {
     transfers: [u64; SESSIONS],
@@ -29,8 +29,10 @@ pub struct Tally {
 
 impl Tally {
     pub fn transfer(&mut self, session: usize, length: usize, last: u8) {
-        self.transfers[session] += 1;
-        self.digests[session] = self.digests[session].wrapping_mul(31).wrapping_add(length as u64 * 256 + last as u64);
+        let at = session % SESSIONS;
+        self.transfers[at] += 1;
+        let seen = (session as u64) << 40 | (length as u64 * 256 + last as u64);
+        self.digests[at] = self.digests[at].wrapping_mul(31).wrapping_add(seen);
     }
 }
 
@@ -46,18 +48,19 @@ pub struct Stream {
     pub bytes: Vec<u8>,
     frames: Vec<Range<usize>>,
     pub transfers: Vec<Transfer>,
+    sessions: usize,
 }
 
 impl Stream {
-    /// So many Transfers with a payload of about so many bytes: lengths vary by an eighth, that one in another's place is noticed.
+    /// So many Transfers on so many sessions, with a payload of about so many bytes: lengths vary by an eighth, that one in another's place is noticed.
     /// After each fifty come a Flow and a Disposition.
-    pub fn new(transfers: usize, payload: usize) -> Self {
-        let mut stream = Stream { bytes: HEADER.to_vec(), frames: Vec::new(), transfers: Vec::new() };
+    pub fn new(transfers: usize, payload: usize, sessions: usize) -> Self {
+        let mut stream = Stream { bytes: HEADER.to_vec(), frames: Vec::new(), transfers: Vec::new(), sessions };
         stream.open();
         let mut dice = 1;
-        let mut sent = [0; SESSIONS];
+        let mut sent = vec![0; sessions];
         for at in 1..=transfers {
-            let session = roll(&mut dice) % SESSIONS;
+            let session = roll(&mut dice) % sessions;
             let length = payload - payload / 8 + roll(&mut dice) % (payload / 4 + 1);
             stream.transfer(session, sent[session], length, &mut dice);
             sent[session] += 1;
@@ -68,22 +71,32 @@ impl Stream {
         stream
     }
 
+    /// The channel-max of both sides.
+    pub fn channel_max(&self) -> u16 {
+        self.sessions.max(255) as u16
+    }
+
+    /// How many frames there are before those that are measured.
+    pub fn before(&self) -> usize {
+        1 + 2 * self.sessions
+    }
+
     pub fn opening(&self) -> impl Iterator<Item = &[u8]> {
-        self.frames[..OPENING].iter().map(|place| &self.bytes[place.clone()])
+        self.frames[..self.before()].iter().map(|place| &self.bytes[place.clone()])
     }
 
     /// The frames that are measured, one by one, and all together.
     pub fn frames(&self) -> impl Iterator<Item = &[u8]> {
-        self.frames[OPENING..].iter().map(|place| &self.bytes[place.clone()])
+        self.frames[self.before()..].iter().map(|place| &self.bytes[place.clone()])
     }
 
     pub fn measured(&self) -> &[u8] {
-        &self.bytes[self.frames[OPENING].start..]
+        &self.bytes[self.frames[self.before()].start..]
     }
 
     /// What somebody must have seen who tells this length and last byte of each Transfer.
     pub fn tally(&self, told: impl Fn(&Transfer) -> (usize, u8)) -> Tally {
-        let mut tally = Tally { others: (self.frames.len() - OPENING - self.transfers.len()) as u64, ..Tally::default() };
+        let mut tally = Tally { others: (self.frames.len() - self.before() - self.transfers.len()) as u64, ..Tally::default() };
         for transfer in &self.transfers {
             let (length, last) = told(transfer);
             tally.transfer(transfer.session, length, last);
@@ -107,10 +120,11 @@ impl Stream {
     }
 
     fn open(&mut self) {
-        self.lay(0, &body(16, &[b"\xa1\x04pads", b"\x40", &uint(MAX_FRAME_SIZE), &ushort(CHANNEL_MAX)]));
-        for session in 0..SESSIONS {
+        self.lay(0, &body(16, &[b"\xa1\x04pads", b"\x40", &uint(MAX_FRAME_SIZE), &ushort(self.channel_max())]));
+        for session in 0..self.sessions {
             self.lay(channel_of(session), &body(17, &[b"\x40", b"\x43", &uint(2048), &uint(2048)]));
-            let (name, handle) = ([b"\xa1\x06press", &[b'0' + session as u8][..]].concat(), uint(session as u32));
+            let name = format!("press{session}");
+            let (name, handle) = ([&[0xa1, name.len() as u8], name.as_bytes()].concat(), uint(session as u32));
             let (source, target) = (body(0x28, &[b"\xa1\x03pad"]), body(0x29, &[b"\xa1\x03hub"]));
             let attach: [&[u8]; 10] = [&name, &handle, b"\x42", b"\x50\x01", b"\x50\x00", &source, &target, b"\x40", b"\x40", b"\x43"];
             self.lay(channel_of(session), &body(18, &attach));

@@ -1,5 +1,7 @@
 //! The oracle: a published engine over a wire in memory, one event at a time, and what it holds after each.
 
+use std::cell::RefCell;
+use std::collections::HashMap;
 use std::future::Future;
 use std::panic::AssertUnwindSafe;
 use std::pin::Pin;
@@ -39,6 +41,9 @@ struct Session {
     receiver: mpsc::Receiver<SessionFrame>,
 }
 
+/// Among so many sessions one is searched for.
+const FEW: usize = 16;
+
 enum Done {
     Turned(Box<Engine>, Result<Stopped, String>),
     Looped,
@@ -61,6 +66,8 @@ pub struct Oracle {
     outgoing: mpsc::Sender<SessionFrame>,
     listened: Option<mpsc::Receiver<IncomingSession>>,
     sessions: Vec<Session>,
+    /// Handles by a relay's place in memory. The relay is kept, so that the place stays its own.
+    handles: RefCell<HashMap<*const mpsc::Sender<SessionFrame>, (SessionRelay, u32)>>,
     codec: LengthDelimitedCodec,
     writing_limit: usize,
     /// A relay to nobody, for trying what a slab gives.
@@ -194,6 +201,7 @@ impl Oracle {
             outgoing,
             listened,
             sessions: Vec::new(),
+            handles: RefCell::default(),
             codec,
             writing_limit,
             spare: Arc::new(mpsc::channel(1).0),
@@ -230,6 +238,14 @@ impl Oracle {
                 .set_decoder_max_frame_size(local_max_frame_size as usize);
         }
         self.look();
+    }
+
+    /// Whether channels and ties are shown after each call, which takes long where there are very many. While they are not, there seem to be none.
+    pub fn show_channels(&mut self, shown: bool) {
+        self.window.lock().unwrap().shows_channels = shown;
+        if let Some(engine) = &self.engine {
+            engine.connection.show();
+        }
     }
 
     /// What the engine holds.
@@ -307,8 +323,25 @@ impl Oracle {
 
     /// The relay of a session that was never delivered has no handle: it counts as the highest one.
     fn handle(&self, relay: &SessionRelay) -> u32 {
-        let session = self.sessions.iter().find(|session| session.sender.same_channel(relay));
-        session.map_or(u32::MAX, |session| session.handle)
+        let search = || self.sessions.iter().find(|session| session.sender.same_channel(relay)).map(|session| session.handle);
+        if self.sessions.len() <= FEW {
+            return search().unwrap_or(u32::MAX);
+        }
+        let mut handles = self.handles.borrow_mut();
+        if let Some((_, handle)) = handles.get(&Arc::as_ptr(relay)) {
+            return *handle;
+        }
+        let Some(handle) = search() else { return u32::MAX };
+        handles.insert(Arc::as_ptr(relay), (relay.clone(), handle));
+        handle
+    }
+
+    /// The relay of a channel that is taken.
+    fn relay(&self, channel: u16) -> SessionRelay {
+        match &self.engine {
+            Some(engine) => engine.connection.inner.core().session_by_outgoing_channel[channel as usize].clone(),
+            None => self.window.lock().unwrap().outgoing[channel as usize].clone(),
+        }
     }
 
     fn answer(&mut self, inner: Inner, consumed: usize) -> Answer {
@@ -429,7 +462,7 @@ impl Oracle {
         let mut found = None;
         if let Some(session) = self.listened.as_mut().and_then(|listened| listened.try_recv().ok()) {
             let channel = session.outgoing_channel.expect("a new session has a channel").0;
-            let sender = (*self.window.lock().unwrap().outgoing[channel as usize]).clone();
+            let sender = (*self.relay(channel)).clone();
             let receiver = session.incoming_rx.expect("a new session has a receiver");
             self.sessions.push(Session { handle: spare, sender, receiver });
             found = Some(Inner::Began { channel, handle: spare });
@@ -458,10 +491,14 @@ impl Oracle {
     }
 
     fn allocate(&mut self, handle: u32) -> Answer {
-        let (sender, receiver) = mpsc::channel(16);
-        let (control, mut answered) = turn::allocation(sender.clone());
-        // The session is there before its relay is: the connection is looked at as soon as it holds one.
-        self.sessions.push(Session { handle, sender, receiver });
+        // Sessions with one handle are not told apart: they are one. It is there before its relay is: the connection is looked at as soon as it holds one.
+        let known = self.sessions.iter().position(|session| session.handle == handle);
+        let at = known.unwrap_or(self.sessions.len());
+        if known.is_none() {
+            let (sender, receiver) = mpsc::channel(16);
+            self.sessions.push(Session { handle, sender, receiver });
+        }
+        let (control, mut answered) = turn::allocation(self.sessions[at].sender.clone());
         let turn = self.control(control);
         let inner = match answered.try_recv() {
             Ok(Ok(OutgoingChannel(channel))) => Inner::Channel(channel),
@@ -470,7 +507,7 @@ impl Oracle {
             Ok(Err(AllocSessionError::ChannelMaxReached)) => Inner::Refused(Refusal::NoChannelLeft),
             Err(_) => Inner::Refused(Refusal::NotTaken),
         };
-        if !matches!(inner, Inner::Channel(_)) {
+        if known.is_none() && !matches!(inner, Inner::Channel(_)) {
             self.sessions.pop();
         }
         self.ordered(turn, inner)

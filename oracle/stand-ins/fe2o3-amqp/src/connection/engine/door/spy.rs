@@ -46,6 +46,8 @@ impl Either {
 #[derive(Debug)]
 pub(super) struct Seen {
     pub state: ConnectionState,
+    /// Whether channels and ties are shown; else there seem to be none.
+    pub shows_channels: bool,
     pub outgoing: Slab<SessionRelay>,
     pub incoming: HashMap<IncomingChannel, SessionRelay>,
     pub agreed_channel_max: u16,
@@ -77,6 +79,7 @@ impl Spy {
         let core = inner.core();
         let seen = Seen {
             state: core.local_state,
+            shows_channels: true,
             outgoing: Slab::new(),
             incoming: HashMap::new(),
             agreed_channel_max: core.agreed_channel_max,
@@ -96,8 +99,10 @@ impl Spy {
         let core = self.inner.core();
         let mut seen = self.seen.lock().unwrap();
         seen.state = core.local_state;
-        seen.outgoing = core.session_by_outgoing_channel.clone();
-        seen.incoming = core.session_by_incoming_channel.clone();
+        (seen.outgoing, seen.incoming) = match seen.shows_channels {
+            true => (core.session_by_outgoing_channel.clone(), core.session_by_incoming_channel.clone()),
+            false => (Slab::new(), HashMap::new()),
+        };
         seen.agreed_channel_max = core.agreed_channel_max;
         seen.remote = core.remote_open.is_some();
     }
