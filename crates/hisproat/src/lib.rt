@@ -1,39 +1,30 @@
 // The engine as C calls it: numbers and byte slices only. The lent state has a fixed part, which each event reads whole and lays back as far as it can change,
 // and behind it the tables, which the engine is lent as they stand. A function returns 0, or the number of a refusal, and then no lent byte has changed.
 mod answers;
+mod status;
 
 use answers::finish;
-use channels::AgreedMax;
-use connection::HandleAnswer;
 use engine::ConnectionEngine;
 use engine::NewEngine;
 use engine_bytes::EngineRead;
 use engine_bytes::FIXED_SIZE;
 use engine_bytes::ID;
-use engine_bytes::numbers::put_phase;
-use engine_bytes::numbers::role_number;
 use frame_encoder::IdleTimeOut;
-use layout::put_may;
 use octets::number;
-use octets::put_number;
 ghost use mathlib.Core.Path.{_≡_};
 ghost use mathlib.Core.Bool.{not, _&&_};
-ghost use mathlib.Core.List.{List, []};
-ghost use Prim.Native.Nat.{ℕ, _+_, _*_, _≤_};
+ghost use mathlib.Core.List.{[]};
+ghost use Prim.Native.Nat.{_+_, _*_, _≤_};
 ghost use lib.Dec.{leb};
 ghost use lib.ListN.{length};
 ghost use mathlib.Core.Option.{none, some};
-ghost use Rattle.octets.specs.Octets.{put};
-ghost use Rattle.layout.specs.Layout.{may, held};
-ghost use Rattle.channels.specs.Channels.{agreedMaxSays};
-ghost use Rattle.connection.specs.View.{handleSays};
-ghost use Rattle.engine.specs.Answers.{whole};
+ghost use Rattle.layout.specs.Layout.{held};
 ghost use Rattle.frame_encoder.specs.Answers.{errorText, idleSaid};
 ghost use Rattle.connection_model.specs.Connection as M;
 ghost use Rattle.engine_model.specs.Engine.{sendHeader, receiveHeader, sendOpen, incoming, closeOrder, allocate, deallocate, outgoing, tick, endOfInput, notDelivered};
-ghost use Rattle.hisproat.specs.Answers.{flagged, settingsOf, statusBytes, takenBytes, tiedBytes};
-ghost use Rattle.hisproat.specs.Promises.{Starts, IsId, PutsHandle, PutsStatus};
-ghost use Rattle.hisproat.specs.Crossing.{crossing, Crosses, Makes, Reports};
+ghost use Rattle.hisproat.specs.Answers.{flagged, settingsOf};
+ghost use Rattle.hisproat.specs.Promises.{Starts, IsId};
+ghost use Rattle.hisproat.specs.Crossing.{crossing, Crosses, Makes};
 
 // How many bytes an event's answer has, what is told of an engine, and a handle.
 pub const ANSWER_SIZE: usize = 42;
@@ -97,51 +88,6 @@ fn started(new: NewEngine, container_id: &[u8], state: &mut [u8]) -> u8
         }
         NewEngine::Refused(k) => k,
     }
-}
-
-// Lays a handle that was looked up into the answer, or tells the refusal.
-fn put_handle(found: HandleAnswer, answer: &mut [u8]) -> u8
-    ensures { λ r. ⌜ PutsHandle (handleSays found) (now (answer .entry)) r (now (answer .exit)) ⌝ }
-{
-    match found {
-        HandleAnswer::Handle(handle) => {
-            put_may(answer, 0, 4, true, handle as u64);
-            0
-        }
-        HandleAnswer::Nothing => {
-            put_may(answer, 0, 4, false, 0);
-            0
-        }
-        HandleAnswer::Refused(k) => k,
-    }
-}
-
-// Lays the agreed channel-max into the answer.
-fn put_agreed(agreed: AgreedMax, answer: &mut [u8])
-    ensures { λ _. ⌜ now (answer .exit) ≡ put (now (answer .entry)) 12 (may 2 (agreedMaxSays agreed)) ⌝ }
-{
-    match agreed {
-        AgreedMax::Is(highest) => put_may(answer, 12, 2, true, highest as u64),
-        AgreedMax::Absent => put_may(answer, 12, 2, false, 0),
-    }
-}
-
-// Lays what an engine is into the answer.
-fn put_status(engine: ConnectionEngine, answer: &mut [u8])
-    ensures { λ _. ⌜ ((t id : List ℕ) → PutsStatus (whole engine t id) (now (answer .entry)) (now (answer .exit))) ⌝ }
-{
-    if answer.len() < STATUS_SIZE {
-        return;
-    }
-    let connection = engine.connection();
-    let state = connection.state();
-    put_number(answer, 0, 1, role_number(connection.role()) as u64);
-    put_phase(engine.phase(), answer, 1);
-    put_number(answer, 3, 1, state.number() as u64);
-    put_number(answer, 4, 4, connection.reading_limit() as u64);
-    put_number(answer, 8, 4, connection.writing_limit() as u64);
-    put_agreed(connection.agreed_channel_max(), answer);
-    put_number(answer, 15, 4, connection.taken_count() as u64);
 }
 
 // Makes a fresh engine of the one that dials in the lent state.
@@ -457,52 +403,4 @@ pub extern "C" fn hisproat_on_not_delivered(
     let after = told.engine;
     let failed = answers::handled(running, told.written);
     finish(failed, after, state, answer)
-}
-
-// Tells role, phase, outcome, state, limits, and how many channels are taken.
-#[no_mangle]
-pub extern "C" fn hisproat_status(state: &[u8], answer: &mut [u8]) -> u8
-    ensures { λ r. ⌜ Reports 19 statusBytes (now (state .entry)) (now (answer .entry)) (record { returned = r; answer = now (answer .exit) }) ⌝ }
-{
-    if answer.len() < STATUS_SIZE {
-        return NO_ROOM;
-    }
-    let EngineRead::Is(engine) = engine_bytes::from_bytes(state) else {
-        return BROKEN;
-    };
-    put_status(engine, answer);
-    0
-}
-
-// Tells the handle of the session on an outgoing channel.
-#[no_mangle]
-pub extern "C" fn hisproat_handle_at(state: &[u8], channel: u16, answer: &mut [u8]) -> u8
-    ensures { λ r. ⌜ Reports 5 (takenBytes channel) (now (state .entry)) (now (answer .entry)) (record { returned = r; answer = now (answer .exit) }) ⌝ }
-{
-    if answer.len() < HANDLE_SIZE {
-        return NO_ROOM;
-    }
-    let EngineRead::Is(engine) = engine_bytes::from_bytes(state) else {
-        return BROKEN;
-    };
-    let connection = engine.connection();
-    put_handle(connection.handle_at(&state[FIXED_SIZE..], channel), answer)
-}
-
-// Tells the handle that an incoming channel is tied to.
-#[no_mangle]
-pub extern "C" fn hisproat_tied_handle(state: &[u8], channel: u16, answer: &mut [u8]) -> u8
-    ensures { λ r. ⌜ Reports 5 (tiedBytes channel) (now (state .entry)) (now (answer .entry)) (record { returned = r; answer = now (answer .exit) }) ⌝ }
-{
-    if answer.len() < HANDLE_SIZE {
-        return NO_ROOM;
-    }
-    let EngineRead::Is(engine) = engine_bytes::from_bytes(state) else {
-        return BROKEN;
-    };
-    let connection = engine.connection();
-    put_handle(
-        connection.tied_handle(&state[FIXED_SIZE..], channel),
-        answer,
-    )
 }

@@ -2,8 +2,8 @@
 -- Assumes nothing.
 use borrow.Author.Needs.{needs}
 use Rattle.hisproat.proofs.Readings.{reports-short, reports-broken, status-told}
-use Rattle.hisproat.proofs.hisproat_status.Statement.{statement}
-use Rattle.hisproat.proofs.hisproat_status.Tie as tie
+use Rattle.hisproat.proofs.status.hisproat_status.Statement.{statement}
+use Rattle.hisproat.proofs.status.hisproat_status.Tie as tie
 
 returns : tie.Need-returns
 returns c = reports-short _ _ _ _ (c .if1 .taken)

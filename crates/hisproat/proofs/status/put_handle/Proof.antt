@@ -2,8 +2,8 @@
 -- Assumes nothing.
 use borrow.Author.Needs.{needs}
 use Rattle.hisproat.proofs.Readings.{puts-there, puts-nothing, puts-refused}
-use Rattle.hisproat.proofs.put_handle.Statement.{statement}
-use Rattle.hisproat.proofs.put_handle.Tie as tie
+use Rattle.hisproat.proofs.status.put_handle.Statement.{statement}
+use Rattle.hisproat.proofs.status.put_handle.Tie as tie
 
 enum-known-found : tie.Need-enum-known-found
 enum-known-found c = search needs

@@ -2,8 +2,8 @@
 -- Assumes nothing.
 use borrow.Author.Needs.{needs}
 use Rattle.hisproat.proofs.Readings.{agreed-there, agreed-not}
-use Rattle.hisproat.proofs.put_agreed.Statement.{statement}
-use Rattle.hisproat.proofs.put_agreed.Tie as tie
+use Rattle.hisproat.proofs.status.put_agreed.Statement.{statement}
+use Rattle.hisproat.proofs.status.put_agreed.Tie as tie
 
 enum-known-agreed : tie.Need-enum-known-agreed
 enum-known-agreed c = search needs

@@ -2,8 +2,8 @@
 -- Assumes nothing.
 use borrow.Author.Needs.{needs}
 use Rattle.hisproat.proofs.Readings.{status-short, status-laid}
-use Rattle.hisproat.proofs.put_status.Statement.{statement}
-use Rattle.hisproat.proofs.put_status.Tie as tie
+use Rattle.hisproat.proofs.status.put_status.Statement.{statement}
+use Rattle.hisproat.proofs.status.put_status.Tie as tie
 
 returns : tie.Need-returns
 returns c t id = status-short _ _ (c .if1 .taken)

@@ -3,8 +3,8 @@
 use borrow.Author.Needs.{needs}
 use Rattle.hisproat.proofs.Crossings.{read-long}
 use Rattle.hisproat.proofs.Readings.{reports-short, reports-broken, tied-told}
-use Rattle.hisproat.proofs.hisproat_tied_handle.Statement.{statement}
-use Rattle.hisproat.proofs.hisproat_tied_handle.Tie as tie
+use Rattle.hisproat.proofs.status.hisproat_tied_handle.Statement.{statement}
+use Rattle.hisproat.proofs.status.hisproat_tied_handle.Tie as tie
 
 returns : tie.Need-returns
 returns c = reports-short _ _ _ _ (c .if1 .taken)
