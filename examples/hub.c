@@ -24,7 +24,7 @@
 #include <stdlib.h>
 #include <string.h>
 
-enum { PADS = 8, LANES = 6, SESSIONS_EACH = 4, SESSIONS = PADS * SESSIONS_EACH, CHANNEL_MAX = 7, MAX_FRAME = 1024, MAX_PIECE = 255, TICK_EVERY = 32 };
+enum { PADS = 8, LANES = 6, SESSIONS_EACH = 4, SESSIONS = PADS * SESSIONS_EACH, CHANNEL_MAX = 511, MAX_FRAME = 1024, MAX_PIECE = 255, TICK_EVERY = 32 };
 
 typedef struct {
     const char *name;

@@ -81,9 +81,9 @@
  * THREADS AND STACK
  *
  * There are no globals and no thread-local data. Calls on different states may run at the same time. Calls on one state, and on any slice that a call writes
- * to, must come one after the other. Of the C library only memcpy and memset are used.
+ * to, must come one after the other. Nothing of the C library is used.
  * The most stack that was measured is 10,112 bytes, in hisproat_on_close_with_error while a frame waits whose values stand in arrays, sixteen deep; a Transfer that
- * comes takes 886. Give a thread that calls 12 KiB besides its own.
+ * comes takes 752. Give a thread that calls 12 KiB besides its own.
  *
  *
  * EXAMPLE: a listener that reads a whole recorded input. Returns the outcome, or -1 where an argument was refused.

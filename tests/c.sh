@@ -1,5 +1,5 @@
 #!/usr/bin/env bash
-# Tests of the C side: the headers as C and as C++, the example, the tests through C (under valgrind too), the stack, the frame reader, the instructions of a width, a bound on those
+# Tests of the C side: the headers as C and as C++, the example, that the archive needs no other code, the tests through C (under valgrind too), the stack, the frame reader, the instructions of a width, a bound on those
 # of reading, and the example hub against its stored output and with damaged pads.
 # Usage: tests/c.sh [ARCHIVE]; without ARCHIVE the library is built by rt, with the kit that keeps the module of it for tests/fuzz.sh. Installs gcc, g++ and valgrind where they are missing.
 # The last line is 'c.sh: N parts passed', and the exit status 0, where nothing was wrong.
@@ -39,6 +39,10 @@ grep -q hisproat_on_incoming "$work/example.c"
 gcc -std=c11 "${warnings[@]}" "$work/example.c" tests/c/example.c "$archive" -o "$work/example"
 "$work/example"
 passed "the header's example does what it says"
+
+needed=$(nm -u "$archive" | awk '$1 == "U" { print $2 }')
+[ -z "$needed" ] || { echo "c.sh: the archive needs" $needed >&2; exit 1; }
+passed "the archive needs nothing from outside"
 
 gcc -std=c11 -O2 "${warnings[@]}" -Itests/c tests/c/{crossing,rig,judge,fence,sizes,fresh,state_bytes,altered,many}.c "$archive" -o "$work/crossing"
 gcc -std=c11 -O2 "${warnings[@]}" examples/hub.c "$archive" -o "$work/hub"

@@ -14,7 +14,7 @@ use words::part;
 
 const LIMIT: u32 = 16384;
 
-const HIGHEST: u16 = 255;
+const HIGHEST: u16 = 65535;
 
 fn refused(k: u64) {
     print(b"refused ");
