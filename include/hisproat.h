@@ -14,8 +14,9 @@
  *             It has no pointers inside: it may be moved, copied, kept in storage and brought back. A copy is another engine that stands where the first one stood.
  *             The first HISPROAT_FIXED_SIZE bytes are the fixed part; behind it stand the tables, 28 bytes for each channel from 0 to channel_max. A new engine
  *             believes nothing that stood there. Bytes past the tables are neither looked at nor changed.
- *             Every call checks the fixed part whole, and that the tables are long enough: what is not an engine's is refused with 8 and left as it is. The tables are
- *             not looked through: only hisproat_dialler and hisproat_listener, which clear a mark in each place, cost more for having more channels.
+ *             Every call checks the fixed part whole, its numbers, its limits, and that the phase is one that events can lead to in its state, and that the tables are
+ *             long enough: what is not an engine's is refused with 8 and left as it is. The tables are not looked through: only hisproat_dialler and
+ *             hisproat_listener, which clear a mark in each place, cost more for having more channels.
  *             The tables belong to the engine. If you write into them between calls, each call still ends, stays inside its slices, and changes nothing where
  *             it returns a refusal; but which channels are taken and tied is then up to what you wrote.
  *   input     bytes that are only read: a frame, waiting frames, a header, a text.

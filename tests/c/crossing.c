@@ -701,23 +701,6 @@ static void waiting_unsent(Tally *t)
     ends_with(&closed, said, HISPROAT_OUTCOME_NOT_FOUND, "the peer's Close is answered with the error");
 }
 
-/* A Close in CloseReceived is not allowed, and answered nonetheless, behind the frames that wait; one of them that cannot be sent decides the outcome. No event leads to that state: its byte does. */
-static void second_close(Tally *t)
-{
-    Piece open_of_500 = frame(0, OPEN_OF_500), close = frame(0, CLOSE), good = frame(0, TRANSFER), waiting[] = { good, joined(good, begin_for(2, 1)), and_too_long(good) };
-    Piece written[] = { joined(good, close), joined(good, close_with("amqp:not-found", "Outgoing channel is not found")), good };
-    static const uint8_t OUTCOMES[] = { HISPROAT_OUTCOME_ILLEGAL_STATE, HISPROAT_OUTCOME_NOT_FOUND, HISPROAT_OUTCOME_TRANSPORT_ERROR };
-    for (size_t i = 0; i < 3; i++) {
-        Engine e = new_engine(t, 1, p1());
-        open_with(&e, of(&open_of_500));
-        e.state.at[AT_STATE] = HISPROAT_STATE_CLOSE_RECEIVED;
-        Said said = incoming_while(&e, of(&close), of(&waiting[i]));
-        check(t, said.kind == HISPROAT_KIND_REFUSED && said.detail == 20, "a Close in CloseReceived");
-        check(t, same(wire(&e), of(&written[i])), "what is written then");
-        ends_with(&e, said, OUTCOMES[i], "the outcome is that of the Close, or of the frame that cannot be sent");
-    }
-}
-
 static void transport_error(Tally *t)
 {
     for (size_t i = 0; i < sizeof UNREADABLE / sizeof UNREADABLE[0]; i++) {
@@ -732,7 +715,6 @@ static void transport_error(Tally *t)
     too_long_for_any(t);
     waiting_room(t);
     waiting_unsent(t);
-    second_close(t);
     Engine e = awaiting(t);
     ends_with(&e, end_of_input(&e), HISPROAT_OUTCOME_TRANSPORT_ERROR, "the input ends while the peer's Close is awaited");
     e = opened(t, 0);

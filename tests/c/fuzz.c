@@ -775,25 +775,8 @@ static void check_state(const Call *c, const uint8_t *a, const uint8_t *s, const
     demand(a[HISPROAT_AT_OUTCOME] == (stopped ? now[AT_OUTCOME] : 0), "the answer and the state differ about the outcome");
 }
 
-/* Whether a well-formed frame is a Close. */
-static int is_close(const uint8_t *frame)
-{
-    return hisproat_number(frame, 4) > 8 && hisproat_number(frame + 10, frame[9] == 0x53 ? 1 : 8) == 0x18;
-}
-
-/* The outcome of a Close that came in CloseReceived, where none is allowed, while frames wait. They are sent first, and then a Close without an error. One that is over the writing limit ends it
- * there; one for no session has a Close with an error written. */
-static uint8_t second_close(const Round *r, const uint8_t *now)
-{
-    size_t written = (size_t)hisproat_written(r->at[LENT_ANSWER]);
-    if (now[AT_STATE] != HISPROAT_STATE_END)
-        return HISPROAT_OUTCOME_TRANSPORT_ERROR;
-    demand(written >= 12, "a Close that is answered is not written");
-    return memcmp(r->at[LENT_OUTPUT] + written - 4, "\x00\x53\x18\x45", 4) == 0 ? HISPROAT_OUTCOME_ILLEGAL_STATE : HISPROAT_OUTCOME_NOT_FOUND;
-}
-
 /* What a refusal inside an event leads to. */
-static void check_error_path(const Round *r, const Call *c, const uint8_t *s)
+static void check_error_path(const Round *r)
 {
     const uint8_t *a = r->at[LENT_ANSWER], *now = r->at[LENT_STATE];
     uint8_t detail = a[HISPROAT_AT_DETAIL], outcome = HISPROAT_OUTCOME_TRANSPORT_ERROR;
@@ -807,9 +790,6 @@ static void check_error_path(const Round *r, const Call *c, const uint8_t *s)
         outcome = HISPROAT_OUTCOME_NOT_IMPLEMENTED;
     demand(now[AT_PHASE] == HISPROAT_PHASE_STOPPED || (now[AT_PHASE] == HISPROAT_PHASE_AWAITING && outcome != HISPROAT_OUTCOME_TRANSPORT_ERROR),
            "after a refusal inside the engine goes on");
-    if (c->function == ON_INCOMING && s[AT_PHASE] == HISPROAT_PHASE_RUNNING && s[AT_STATE] == HISPROAT_STATE_CLOSE_RECEIVED &&
-        detail == HISPROAT_REFUSED_ILLEGAL_STATE && is_close(c->in[0].at) && waiting_frames(c).len > 0)
-        outcome = second_close(r, now);
     demand(now[AT_OUTCOME] == outcome, "a refusal inside leads to another outcome");
 }
 
@@ -823,7 +803,7 @@ static void check_event(const Round *r, const Call *c, const uint8_t *s)
     check_numbers(a);
     check_written(r, c, s);
     check_state(c, a, s, now);
-    check_error_path(r, c, s);
+    check_error_path(r);
     if (!c->whole)
         return;
     demand(are_shared(now), "the tables are not as an engine leaves them any more");

@@ -80,10 +80,35 @@ static int has_settings(const uint8_t *s)
     return s[AT_HAS_IDLE] <= 1 && size >= HISPROAT_MIN_FRAME_SIZE && size <= HISPROAT_MAX_FRAME_SIZE && id <= HISPROAT_MAX_CONTAINER_ID && is_utf8(s + AT_ID, id);
 }
 
+#define IN(state) (1u << HISPROAT_STATE_##state)
+
+/* Which phases go with which states. A running engine has no outcome, and is not in CloseReceived: a Close is answered by the event that reads it. One awaits the peer's Close because of an error that it told
+ * by its own, and only where that is on its way. It can stop anywhere because of a transport error, where nothing can be told of what is illegal, and with the other outcomes only at the end. */
 static int has_phase(const uint8_t *s)
 {
-    return s[AT_PHASE] <= HISPROAT_PHASE_STOPPED && s[AT_OUTCOME] <= HISPROAT_OUTCOME_REMOTE_CLOSED_WITH_ERROR
-        && (s[AT_PHASE] != HISPROAT_PHASE_RUNNING || s[AT_OUTCOME] == 0);
+    static const uint32_t AWAITS = IN(CLOSE_PIPE) | IN(CLOSE_SENT) | IN(DISCARDING);
+    static const uint32_t STOPS[] = {
+        [HISPROAT_OUTCOME_FINE] = IN(CLOSE_PIPE) | IN(DISCARDING) | IN(END),
+        [HISPROAT_OUTCOME_TRANSPORT_ERROR] = 0xFFFFFFFF,
+        [HISPROAT_OUTCOME_ILLEGAL_STATE] = IN(START) | IN(HEADER_RECEIVED) | IN(HEADER_SENT) | IN(HEADER_EXCHANGE) | IN(OPEN_CLOSE_PIPE) | IN(OPEN_RECEIVED) | IN(CLOSE_PIPE) | IN(CLOSE_SENT) | IN(END),
+        [HISPROAT_OUTCOME_NOT_FOUND] = IN(END),
+        [HISPROAT_OUTCOME_NOT_IMPLEMENTED] = IN(END),
+        [HISPROAT_OUTCOME_REMOTE_CLOSED] = IN(END),
+        [HISPROAT_OUTCOME_REMOTE_CLOSED_WITH_ERROR] = IN(END),
+    };
+    uint8_t outcome = s[AT_OUTCOME], state = s[AT_STATE];
+    if (outcome > HISPROAT_OUTCOME_REMOTE_CLOSED_WITH_ERROR || state > HISPROAT_STATE_END)
+        return 0;
+    switch (s[AT_PHASE]) {
+    case HISPROAT_PHASE_RUNNING:
+        return outcome == 0 && state != HISPROAT_STATE_CLOSE_RECEIVED;
+    case HISPROAT_PHASE_AWAITING:
+        return outcome >= HISPROAT_OUTCOME_ILLEGAL_STATE && outcome <= HISPROAT_OUTCOME_NOT_IMPLEMENTED && (AWAITS >> state & 1);
+    case HISPROAT_PHASE_STOPPED:
+        return STOPS[outcome] >> state & 1;
+    default:
+        return 0;
+    }
 }
 
 /* Three states follow the peer's Open, and three its Open or its Close; the others come before both. */

@@ -146,6 +146,15 @@ static void judged(Tally *t, const Engine *engine, size_t place, uint8_t value, 
     drop_engine(&copy);
 }
 
+/* A copy that has stopped because of a transport error, which can be in every state. */
+static Engine failed(const Engine *engine)
+{
+    Engine copy = copy_of(engine);
+    copy.state.at[AT_PHASE] = HISPROAT_PHASE_STOPPED;
+    copy.state.at[AT_OUTCOME] = HISPROAT_OUTCOME_TRANSPORT_ERROR;
+    return copy;
+}
+
 static void agreed(Tally *t, const Engine *fresh, const Engine *opened)
 {
     static const uint8_t AFTER_OPEN[] = { HISPROAT_STATE_OPEN_RECEIVED, HISPROAT_STATE_OPENED, HISPROAT_STATE_CLOSE_SENT };
@@ -206,7 +215,13 @@ void state_bytes(Tally *t, int all)
     pairs(t, &fresh);
     phases(t, &open);
     phases(t, &fresh);
-    agreed(t, &fresh, &open);
+    Engine fresh_failed = failed(&fresh), open_failed = failed(&open);
+    agreed(t, &fresh_failed, &open_failed);
+    judged(t, &open, AT_STATE, HISPROAT_STATE_CLOSE_RECEIVED, 8, "a running engine in CloseReceived");
+    judged(t, &late, AT_STATE, HISPROAT_STATE_OPENED, 8, "the peer's Close is awaited in Opened");
+    judged(t, &over, AT_STATE, HISPROAT_STATE_CLOSE_SENT, 8, "closed by the peer, and its Close is still to come");
+    drop_engine(&fresh_failed);
+    drop_engine(&open_failed);
     drop_engine(&fresh);
     drop_engine(&open);
     drop_engine(&late);

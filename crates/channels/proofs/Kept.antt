@@ -56,9 +56,6 @@ ties-same t s = record { long = refl; same = λ k f m l. refl; rest = λ n l. re
 pub numbers-same : (n : ℕ) (s : List ℕ) → KeepsNumbers n s s
 numbers-same n s = record { long = refl; same = λ k f m l. refl; rest = λ m l. refl }
 
-pub numbers-more : (n m : ℕ) (s s′ : List ℕ) → n ≤ m → KeepsNumbers n s s′ → KeepsNumbers m s s′
-numbers-more n m s s′ l e = record { long = e .long; same = e .same; rest = λ j q. e .rest j (omega arith) }
-
 pub ties-kept : (n : ℕ) (t : OutgoingChannels) (s s′ : List ℕ) → KeepsTies t s s′ → tiesSays n s′ ≡ tiesSays n s
 unfolding tiesSays
 ties-kept n t s s′ k = fun-ext (λ j. rw (k .same j 3 (omega arith) (omega arith), k .same j 4 (omega arith) (omega arith)))

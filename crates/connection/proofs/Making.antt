@@ -1,8 +1,8 @@
 -- A new connection, one that was kept, and what is asked of one without changing it.
 -- Assumes nothing.
 use mathlib.Core.Path.{_≡_, refl, sym, _∙_, ap, subst}
-use mathlib.Core.Bool.{Bool, true, false, cond, _&&_}
-use mathlib.Core.List.{List, []}
+use mathlib.Core.Bool.{Bool, true, false, _&&_}
+use mathlib.Core.List.{List}
 use mathlib.Core.Option.{Option, none, some}
 use Prim.Native.Nat.{ℕ, suc}
 use Rattle.octets.specs.Verdict.{Verdict, refuse, accept}
@@ -12,10 +12,9 @@ use Rattle.connection_model.specs.Sound.{Reached}
 use Rattle.connection_model.proofs.Invariant.{reached-fresh, shares}
 use Rattle.connection_state.specs.declared.ConnectionState.{ConnectionState}
 use Rattle.connection_state.specs.declared.ConnectionState.the-variants.{Start}
-use Rattle.connection_state.specs.Answers.{stateSays}
 use Rattle.channels.specs.Places.{Covers, covers, past}
 use Rattle.channels.specs.Numbers.{takenBelow}
-use Rattle.channels.specs.Channels.{countsOk, heldSays}
+use Rattle.channels.specs.Channels.{heldSays}
 use Rattle.channels.specs.Ties.{Clears}
 use Rattle.channels.specs.declared.Held.{Held}
 use Rattle.channels.specs.declared.Held.the-variants.{Handle, Nothing}
@@ -30,10 +29,9 @@ use Rattle.endpoint.specs.declared.Role as R
 use Rattle.endpoint.specs.declared.ResumedEndpoint.{ResumedEndpoint}
 use Rattle.endpoint.specs.declared.ResumedEndpoint.the-variants.{Is, Broken}
 use Rattle.endpoint.specs.Answers.{placesOf, roleSays}
-use Rattle.endpoint.specs.Promises.{Counted, newEndpoint, resumedAs}
+use Rattle.endpoint.specs.Promises.{Counted, newEndpoint}
 use Rattle.endpoint.specs.Promises as E
 use Rattle.endpoint.proofs.Opening.{Begins, begins}
-use Rattle.endpoint.proofs.Limits.{fitting, resumed-was, limits-any, limits-counted, reached-limits}
 use Rattle.connection.specs.declared.Connection.{Connection}
 use Rattle.connection.specs.declared.NewConnection.the-variants.{Made, Refused as NotMade}
 use Rattle.connection.specs.declared.ResumedConnection.the-variants as Kept
@@ -118,38 +116,6 @@ resumed-broken x r s p q = sym (ap (resumedIn x) q) ∙ ap (resumedIn x) p
 pub resumed-holds : (x : ConnectionState) (r s : ResumedEndpoint) (e : Endpoint) → r ≡ s → r ≡ Is e → Kept.Is (record { «local_state» = x; endpoint = e }) ≡ resumedIn x s
 resumed-holds x r s e p q = sym (ap (resumedIn x) q) ∙ ap (resumedIn x) p
 
-module _ (x : ConnectionState) (e : Endpoint) where
-  resumed-of : (c : Connection) (r : ResumedEndpoint) → resumedIn x r ≡ Kept.Is c → r ≡ Is (c .endpoint)
-  resumed-of c (Is d) q = (let z : record { «local_state» = x; endpoint = d } ≡ c = cc in ap (λ u. Is (u .endpoint)) z)
-  resumed-of c Broken q = apart (cc)
-
-  resumed-in : (c : Connection) (r : ResumedEndpoint) → resumedIn x r ≡ Kept.Is c → c .«local_state» ≡ x
-  resumed-in c (Is d) q = (let z : record { «local_state» = x; endpoint = d } ≡ c = cc in sym (ap (λ u. u .«local_state») z))
-  resumed-in c Broken q = apart (cc)
-
-  module _ (c : Connection) (q : resumedIn x (resumedAs (stateSays x) e) ≡ Kept.Is c) where
-    was : (c .endpoint ≡ e) × (fitting e (stateSays x) [] ≡ true)
-    was = resumed-was (stateSays x) e (c .endpoint) (resumed-of c (resumedAs (stateSays x) e) q)
-
-    -- what was kept comes back as it is
-    pub resumed-is : c ≡ record { «local_state» = x; endpoint = e }
-    resumed-is = λ i. record { «local_state» = resumed-in c (resumedAs (stateSays x) e) q i; endpoint = was .0 i }
-
-    -- its limits are such as calls can lead to, with whatever container-id
-    pub resumed-fits : (id : List ℕ) → fitting e (stateSays x) id ≡ true
-    resumed-fits id = limits-any id [] (e .«local_open») (stateSays x) _ _ _ ∙ was .1
-
-    pub resumed-counted : countsOk (e .outgoing) ≡ true → Counted (c .endpoint)
-    resumed-counted k = subst Counted (sym (was .0)) (limits-counted e [] (stateSays x) k (was .1))
-
--- a sound connection comes back
-pub sound-resumed : (w : Whole) → Sound w → resumedIn (w .connection .«local_state») (resumedAs (stateSays (w .connection .«local_state»)) (w .connection .endpoint)) ≡ Kept.Is (w .connection)
-sound-resumed w z =
-    let x = w .connection .«local_state» in
-    let e = w .connection .endpoint in
-    let f : fitting e (stateSays x) [] ≡ true = limits-any [] (w .id) (e .«local_open») (stateSays x) _ _ _ ∙ reached-limits (settingsOf w) (viewOf w) (z .reached) in
-    ap (λ b. resumedIn x (cond b (Is e) Broken)) f
-
 -- ---- what makes a connection sound: settings within their limits, tables and counts that are enough, and what holds of every connection
 
 pub counted-sound : (w : Whole) → allowed (settingsOf w) ≡ true → isCovered w ≡ true → Counted (w .connection .endpoint) → Reached (settingsOf w) (viewOf w) → Sound w
@@ -165,9 +131,6 @@ counted-sound w a c k r =
       };
       reached = r;
     }
-
-pub sound-counted : (w : Whole) → Sound w → Counted (w .connection .endpoint)
-sound-counted w z = (z .held .numbers .within, z .held .most)
 
 -- ---- what is looked up
 

@@ -2,6 +2,7 @@
 pub mod Worked
 pub mod Part2
 pub mod Rules
+pub mod Refusing
 pub mod Channels
 pub mod Invariant
 pub mod Routing

@@ -4,11 +4,10 @@ use mathlib.Core.Path.{_≡_, refl, sym, _∙_, ap, subst}
 use mathlib.Core.Bool.{Bool, true, false, cond, _&&_}
 use mathlib.Core.List.{List, [], _∷_}
 use mathlib.Core.Option.{Option, none, some}
-use Prim.Native.Nat.{ℕ, zero, suc, _<_}
-use native.Mathlib.Omega.{arith}
-use lib.Dec.{T, ltb, eqb, ltb→lt, eqb→eq}
+use Prim.Native.Nat.{ℕ, zero, suc}
+use lib.Dec.{T, eqb, eqb→eq}
 use lib.ListN.{getD}
-use borrow.Author.Tests.{eqb-true, ne-eqb}
+use borrow.Author.Tests.{ne-eqb}
 use Rattle.connection_state.specs.States.{State, Start, HeaderReceived, HeaderSent, HeaderExchange, OpenPipe, OpenClosePipe, OpenReceived, OpenSent, ClosePipe, Opened, CloseReceived, CloseSent, Discarding, End, numbered, numberedIn, withNumber, is}
 pub use Rattle.connection_state.specs.States.{states}
 
@@ -57,9 +56,6 @@ nth f e (x ∷ xs) t (suc n) = nth f e xs (and-right (f x) (each f xs) t) n
 pub everywhere : (f : State → Bool) → T (f End) → T (each f states) → (x : State) → T (f x)
 everywhere f e t x = subst (λ y. T (f y)) (numbered-state x) (nth f e states t (numbered x))
 
-pub numbered-low : (x : State) → numbered x < 14
-numbered-low x = ltb→lt (numbered x) 14 (everywhere (λ y. ltb (numbered y) 14) tt tt x)
-
 -- ---- the state that has a number
 
 abbrev holds : State → Option State → Bool
@@ -73,18 +69,6 @@ held x (some y) t = ap some (sym (is-state x y t))
 pub numbered-back : (x : State) → withNumber (numbered x) ≡ some x
 unfolding withNumber
 numbered-back x = held x (numberedIn states (numbered x)) (everywhere (λ y. holds y (numberedIn states (numbered y))) tt tt x)
-
-pub with-number-is : (k : ℕ) (x : State) → withNumber k ≡ some x → numbered x ≡ k
-unfolding withNumber
-with-number-is k x = found states
-  where
-    found : (xs : List State) → numberedIn xs k ≡ some x → numbered x ≡ k
-    found [] e = let z : _≡_ {A = ℕ} 0 1 = cc in absurd (omega arith)
-    found (y ∷ xs) e = go (eqb (numbered y) k) refl e (found xs)
-      where
-        go : (b : Bool) → eqb (numbered y) k ≡ b → cond b (some y) (numberedIn xs k) ≡ some x → (numberedIn xs k ≡ some x → numbered x ≡ k) → numbered x ≡ k
-        go true p q h = let s : y ≡ x = cc in ap numbered (sym s) ∙ eqb-true (numbered y) k p
-        go false p q h = h q
 
 -- in the arm of the state's number
 pub number-told : (x : State) (k : ℕ) → k ≡ numbered x → some x ≡ withNumber k

@@ -1,6 +1,6 @@
 // The states of a connection and the moves between them (Part 2, section 2.4.6).
 ghost use mathlib.Core.Path.{_≡_};
-ghost use Rattle.connection_state.specs.States.{along, is, isOneOf, numbered, withNumber, OpenReceived, Discarding, End};
+ghost use Rattle.connection_state.specs.States.{along, is, isOneOf, numbered, withNumber, CloseReceived, Discarding, End};
 ghost use Rattle.connection_state.specs.States.{sendHeader, receiveHeader, receiveOtherHeader, sendOpen, readOpen, sendClose, sendCloseWithError, readClose};
 ghost use Rattle.connection_state.specs.States.{reading, sending, beforeOpen, afterOpen, stopped, silent};
 ghost use Rattle.connection_state.specs.Answers.{stateSays, movedSays, numberedSays};
@@ -184,12 +184,12 @@ impl ConnectionState {
         }
     }
 
-    // Whether the peer's Open was read and ours is to be sent.
-    pub fn is_open_received(self) -> bool
-        ensures { λ r. ⌜ r ≡ is OpenReceived (stateSays self) ⌝ }
+    // Whether the peer's Close was read and ours is to be sent.
+    pub fn is_close_received(self) -> bool
+        ensures { λ r. ⌜ r ≡ is CloseReceived (stateSays self) ⌝ }
     {
         match self {
-            ConnectionState::OpenReceived => true,
+            ConnectionState::CloseReceived => true,
             _ => false,
         }
     }

@@ -1,19 +1,19 @@
 -- What the getters of an endpoint show, and the functions that judge whether calls can lead to its limits: each return with the facts as they come.
--- Last, what that test means for the connection as it is defined.
+-- Last, that every connection that calls can lead to passes.
 -- Assumes nothing.
 use mathlib.Core.Path.{_≡_, refl, sym, _∙_, ap, subst}
-use mathlib.Core.Bool.{Bool, true, false, cond, not, _&&_}
+use mathlib.Core.Bool.{Bool, true, false, not, _&&_}
 use mathlib.Core.List.{List, []}
 use mathlib.Core.Option.{Option, none, some}
 use Prim.Native.Nat.{ℕ, suc, _-_, _≤_, _<_}
 use native.Mathlib.Omega.{arith}
 use lib.Dec.{leb, eqb}
-use borrow.Author.Tests.{leb-true, eqb-true, le-leb, lt-leb, eq-eqb, ne-eqb}
+use borrow.Author.Tests.{leb-true, le-leb, lt-leb, eq-eqb, ne-eqb}
 use Rattle.frame_encoder.specs.Frames.{Settings}
-use Rattle.connection_state.specs.States.{State, OpenReceived, is, isOneOf, beforeOpen, afterOpen}
+use Rattle.connection_state.specs.States.{State, is, isOneOf, beforeOpen, afterOpen}
 use Rattle.connection_model.specs.Connection.{Connection}
-use Rattle.connection_model.specs.Sound.{Unopened, Agreed, Reached}
-use Rattle.channels.specs.Numbers.{Map, nowhere, Shared, takenBelow}
+use Rattle.connection_model.specs.Sound.{Reached}
+use Rattle.channels.specs.Numbers.{takenBelow}
 use Rattle.channels.specs.Places.{covers}
 use Rattle.channels.specs.Channels.{heldSays, agreedMaxSays, agreedSays, countsOk, Finds}
 use Rattle.channels.specs.declared.OutgoingChannels.{OutgoingChannels}
@@ -21,15 +21,14 @@ use Rattle.channels.specs.declared.Held.{Held}
 use Rattle.channels.specs.declared.AgreedMax.{AgreedMax}
 use Rattle.channels.specs.declared.AgreedMax.the-variants as A
 use Rattle.channels.proofs.Limits.{apart, closed-limits}
-use Rattle.channels.proofs.Tying.{FindsTie, tied-low}
+use Rattle.channels.proofs.Tying.{FindsTie}
 use Rattle.channels.proofs.Steps.{counted}
 use Rattle.local_open.specs.declared.LocalOpen.{LocalOpen}
 use Rattle.local_open.specs.Settings.{openSays}
 use Rattle.endpoint.specs.declared.Endpoint.{Endpoint}
 use Rattle.endpoint.specs.declared.ResumedEndpoint.the-variants.{Is, Broken}
-use Rattle.endpoint.specs.Answers.{Whole, whole, placesOf, settingsOf, handOutOf, takenOf, tiesOf, viewAs}
+use Rattle.endpoint.specs.Answers.{whole, placesOf, takenOf, tiesOf}
 use Rattle.endpoint.specs.Promises.{Sound, Counted, limitsOk, resumedAs}
-use Rattle.endpoint.proofs.Basics.{agreedOf, alike}
 
 -- ---- is_covered, handle_at, tied_handle, taken_count
 
@@ -111,18 +110,7 @@ both : (a b : Bool) → a && b ≡ true → (a ≡ true) × (b ≡ true)
 both true b e = (refl, e)
 both false b e = apart (cc)
 
-unless : (b : Bool) → not b ≡ true → b ≡ false
-unless true e = apart (cc)
-unless false e = refl
-
--- ---- an endpoint that was kept, as the crates above have it
-
-pub resumed-was : (x : State) (kept e : Endpoint) → resumedAs x kept ≡ Is e → (e ≡ kept) × (fitting kept x [] ≡ true)
-resumed-was x kept e q = go (fitting kept x []) q
-  where
-    go : (b : Bool) → cond b (Is kept) Broken ≡ Is e → (e ≡ kept) × (b ≡ true)
-    go true z = (cc, refl)
-    go false z = apart (cc)
+-- ---- what the test means
 
 -- the container-id is no part of the test
 pub limits-any : (id other : List ℕ) (local : LocalOpen) (x : State) (r w : ℕ) (a : Option ℕ) → limitsOk (openSays id local) x r w a ≡ limitsOk (openSays other local) x r w a
@@ -154,56 +142,6 @@ limits-counted e id x c f = (c, go (e .outgoing .opened) refl)
 
 -- ---- the connection as it is defined
 
--- where nothing is agreed no number is free, and none is taken
-no-list : (a : Option ℕ) (l : Option (List ℕ)) (f : Map) → a ≡ none → Shared a l f → (l ≡ none) × (f ≡ nowhere)
-no-list none none f e i = (refl, i)
-no-list none (some l) f e i = absurd i
-no-list (some m) l f e i = apart (cc)
-
--- the limits fit, and the ties are nowhere where no frame can have made one
-module _ (w : Whole) (i : Sound w) (x : State) where
-  abbrev fits : Option ℕ → Type 0
-  fits a = limitsOk (settingsOf w) x (w .endpoint .«reading_limit») (w .endpoint .«writing_limit») a ≡ true
-
-  unopened : fits none → agreedOf w ≡ none → tiesOf w ≡ nowhere → Unopened (settingsOf w) (viewAs x w)
-  unfolding limitsOk
-  unopened f a t =
-      let p = both (not (isOneOf afterOpen x)) (eqb (w .endpoint .«reading_limit») 512 && eqb (w .endpoint .«writing_limit») 512) f in
-      let q = both (eqb (w .endpoint .«reading_limit») 512) (eqb (w .endpoint .«writing_limit») 512) (p .1) in
-      let n = no-list (agreedOf w) (handOutOf w) (takenOf w) a (i .numbers .shared) in
-      let r = eqb-true (w .endpoint .«reading_limit») 512 (q .0) in
-      let s = eqb-true (w .endpoint .«writing_limit») 512 (q .1) in
-      record { stands = unless (isOneOf afterOpen x) (p .0); at-first = alike x r s a (n .0) (n .1) t }
-
-  agreed-on : (m : ℕ) → fits (some m) → agreedOf w ≡ some m → (is OpenReceived x ≡ true → tiesOf w ≡ nowhere) → Agreed (settingsOf w) m (viewAs x w)
-  unfolding limitsOk
-  agreed-on m f a t =
-      let reading = eqb (w .endpoint .«reading_limit») (settingsOf w .maxFrameSize) in
-      let low = leb 512 (w .endpoint .«writing_limit») in
-      let high = leb (w .endpoint .«writing_limit») 16384 in
-      let p = both (not (isOneOf beforeOpen x)) (leb m (settingsOf w .channelMax) && (reading && (low && high))) f in
-      let q = both (leb m (settingsOf w .channelMax)) (reading && (low && high)) (p .1) in
-      let r = both reading (low && high) (q .1) in
-      let s = both low high (r .1) in
-      record {
-        stands = unless (isOneOf beforeOpen x) (p .0);
-        most = leb-true m (settingsOf w .channelMax) (q .0);
-        reading-own = eqb-true (w .endpoint .«reading_limit») (settingsOf w .maxFrameSize) (r .0);
-        writing-low = leb-true 512 (w .endpoint .«writing_limit») (s .0);
-        writing-high = leb-true (w .endpoint .«writing_limit») 16384 (s .1);
-        shared = subst (λ o. Shared o (handOutOf w) (takenOf w)) a (i .numbers .shared);
-        tied = λ n h e. let l = tied-low (placesOf (w .endpoint)) (w .tables) n h e in omega arith;
-        untied = t;
-      }
-
-  pub limits-reached :
-      limitsOk (settingsOf w) x (w .endpoint .«reading_limit») (w .endpoint .«writing_limit») (agreedOf w) ≡ true
-      → (agreedOf w ≡ none → tiesOf w ≡ nowhere) → (is OpenReceived x ≡ true → tiesOf w ≡ nowhere) → Reached (settingsOf w) (viewAs x w)
-  limits-reached f t u = record {
-    unopened = λ a. unopened (subst fits a f) a (t a);
-    agreed = λ m a. agreed-on m (subst fits a f) a u;
-  }
-
 module _ (S : Settings) (c : Connection) (r : Reached S c) where
   reached-as : (a : Option ℕ) → c .agreedMax ≡ a → limitsOk S (c .state) (c .readingLimit) (c .writingLimit) a ≡ true
   unfolding limitsOk
@@ -218,7 +156,3 @@ module _ (S : Settings) (c : Connection) (r : Reached S c) where
 
   pub reached-limits : limitsOk S (c .state) (c .readingLimit) (c .writingLimit) (c .agreedMax) ≡ true
   reached-limits = reached-as (c .agreedMax) refl
-
--- the ties of a connection that calls can lead to are nowhere where no frame can have made one
-pub reached-untied : (S : Settings) (c : Connection) → Reached S c → c .agreedMax ≡ none → c .ties ≡ nowhere
-reached-untied S c r e = ap (λ d. d .ties) (r .unopened e .at-first)

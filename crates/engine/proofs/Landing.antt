@@ -24,6 +24,7 @@ use Rattle.connection.specs.View as View
 use Rattle.connection.specs.declared.Connection.{Connection}
 use Rattle.engine_model.specs.Engine as M
 use Rattle.engine_model.specs.Engine.{Event, Landing, landing, results, notDelivered, endOfInput, inputEnds, fail, cut, cutShort, lent, isRunning, isStopped, running, endedIn, replied, landed}
+use Rattle.engine_model.specs.Phases.{stopsIn}
 use Rattle.engine.specs.declared.ConnectionEngine.{ConnectionEngine}
 use Rattle.engine.specs.declared.error.InnerError.{InnerError}
 use Rattle.engine.specs.declared.error.InnerError.the-variants.{SessionNotFound, NotImplemented}
@@ -36,7 +37,7 @@ use Rattle.engine.specs.declared.Phase.the-variants.{Running, Awaiting, 
 use Rattle.engine.proofs.Phase.{the-type}
 use Rattle.engine.specs.declared.Running.the-variants.{Refused as NotRun}
 use Rattle.engine.specs.Answers.{Whole, whole, engineOf, connectionIn, roleOf, settingsOf, viewOf, Sound, phaseSays, errorSays, goesOn, reply, replySays}
-use Rattle.engine.specs.Promises.{Does, LandedIn, landedIn, Lands, Keeps, Fails, Ends, Handled, endable}
+use Rattle.engine.specs.Promises.{Does, LandedIn, landedIn, Lands, Keeps, Fails, Ends, Handled}
 use Rattle.engine.proofs.Does.{comesTo, refuses}
 use Rattle.engine.proofs.Output.{laid-is}
 use Rattle.engine.proofs.Failing.{keeps-self}
@@ -158,7 +159,7 @@ cut-stopped Running o = absurd (miss (2 ∷ []) 0 tt o)
 cut-stopped (Awaiting x) o = absurd (miss (2 ∷ []) 1 tt o)
 cut-stopped (Stopped x) o = refl
 
-module _ (c : Connection) (out : List ℕ) (x : ConnectionState) (b : Bool) (st : x ≡ c .«local_state») (may : b ≡ isOneOf endable (stateSays x)) where
+module _ (c : Connection) (out : List ℕ) (x : ConnectionState) (b : Bool) (st : x ≡ c .«local_state») (may : b ≡ isOneOf (stopsIn M.fine) (stateSays x)) where
   -- by whether the input may end
   abbrev ended : List ℕ → List ℕ → Bool → Landing
   ended t id u =
@@ -169,7 +170,7 @@ module _ (c : Connection) (out : List ℕ) (x : ConnectionState) (b : Bool) (st 
   ends-fine y t id = record {
     ends-keeps = keeps-self (View.whole c t id);
     ends = λ z r. subst (λ u. Lands (ended t id u) out out (record { phase = Stopped Fine; written = 0; connection = View.whole c t id }))
-        (sym y ∙ may ∙ ap (λ s. isOneOf endable (stateSays s)) st)
+        (sym y ∙ may ∙ ap (λ s. isOneOf (stopsIn M.fine) (stateSays s)) st)
         (record { lands-phase = refl; lands-connection = refl; lands-count = refl; lands-output = nothing-yet out });
   }
 
@@ -181,7 +182,7 @@ module _ (c : Connection) (out : List ℕ) (x : ConnectionState) (b : Bool) (st 
     ends = λ z r.
         let w = fa t id .fails z [] out refl (nothing-yet out) r r in
         subst (λ u. Lands (ended t id u) out out′ (record { phase = p; written = l .written; connection = View.whole (l .connection) t id }))
-        (sym f ∙ may ∙ ap (λ s. isOneOf endable (stateSays s)) st)
+        (sym f ∙ may ∙ ap (λ s. isOneOf (stopsIn M.fine) (stateSays s)) st)
         (record { lands-phase = q ∙ ap cutShort (w .lands-phase); lands-connection = w .lands-connection; lands-count = w .lands-count; lands-output = w .lands-output });
   }
 

@@ -11,7 +11,6 @@ pub mod Failing
 pub mod Openings
 pub mod Landing
 pub mod Refusals
-pub mod Refusing
 pub mod Missing
 pub mod Outgoing
 pub mod Reading

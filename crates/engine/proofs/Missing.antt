@@ -1,25 +1,25 @@
 -- Bytes of a frame are missing: what is judged of the bytes alone is what the rule of a frame that came refuses with 1.
 -- Assumes nothing.
-use mathlib.Core.Path.{_≡_, refl, sym, _∙_}
+use mathlib.Core.Path.{_≡_, refl, sym, _∙_, subst}
 use mathlib.Core.Bool.{Bool, true, false, not, _&&_, _||_}
 use mathlib.Core.List.{List, [], _∷_}
-use mathlib.Core.Option.{Option, none, some}
+use mathlib.Core.Option.{Option}
 use Prim.Native.Nat.{ℕ, _<_, _≤_}
 use native.Mathlib.Omega.{arith}
 use lib.ListN.{length}
-use lib.Dec.{leb, ltb, eqb}
+use lib.Dec.{T, leb, ltb, eqb}
 use borrow.Author.Tests.{leb-true, leb-false, le-leb, lt-leb, le-ltb, lt-ltb, ne-eqb}
 use Rattle.octets.specs.Verdict.{Verdict, refuse, accept, require, andThen}
-use Rattle.performatives.specs.Performative.{Performative, performative, condition, maxFrameSize, channelMax, idleTimeOut, remoteChannel}
+use Rattle.performatives.specs.Performative.{Performative, performative}
 use Rattle.performatives.proofs.Laws.{performative-six}
 use Rattle.frame_decoder.specs.Frame.{Frame, sizeOf, frame, bodyIn, content, readFrame}
 use Rattle.frame_encoder.specs.Frames.{Settings}
-use Rattle.connection_state.specs.States.{State, Discarding, Move, _⇒_, is, along, readOpen, readClose}
+use Rattle.connection_state.specs.States.{State}
 use Rattle.connection_model.specs.Connection as K
-use Rattle.connection_model.specs.Connection.{Role, dialler, listener, receiveFrame, decide, hasError, tieTo, untie, passOn, newSession, begun, sessionRead, openRead, closeRead, performativeRead, frameRead}
+use Rattle.connection_model.specs.Connection.{Role, receiveFrame, decide, frameRead}
+use Rattle.connection_model.proofs.Refusing.{Refuses, takes, turns, on-require, on-then, by-number, refuses-as, unread, late-frame}
 use Rattle.engine_model.specs.Engine.{lacks}
 use Rattle.engine.specs.Reading.{lacksBytes}
-use Rattle.engine.proofs.Refusing.{Refuses, takes, turns, on-require, on-then, on-cond, by-number}
 
 -- ---- as it is judged
 
@@ -78,7 +78,7 @@ frame-by true true true true rest h = not-missing h
 frame-missing : (limit highest : ℕ) (s : List ℕ) → isMissing (frame limit highest s) ≡ lacksBytes limit s
 unfolding frame lacksBytes
 frame-missing limit highest s =
-    frame-by (leb 4 (length s)) (leb 8 (sizeOf s)) (leb (sizeOf s) limit) (leb (sizeOf s) (length s)) _ (on-require Other _ _ _ refl (on-require Other _ _ _ refl takes))
+    frame-by (leb 4 (length s)) (leb 8 (sizeOf s)) (leb (sizeOf s) limit) (leb (sizeOf s) (length s)) _ (on-require Other _ _ _ refl (λ t. on-require Other _ _ _ refl (λ u. takes)))
 
 content-other : (s : List ℕ) → Refuses Other (content s)
 unfolding content
@@ -90,53 +90,11 @@ unfolding readFrame
 read-missing limit highest s = first-missing (frame limit highest s) _ (λ f. on-then Other _ (content-other (bodyIn f s)) (λ c. takes)) ∙ frame-missing limit highest s
 
 -- what comes after the frame is read is refused with 20, 24 and 25
-
-along-other : (moves : List Move) (x : State) → Refuses Other (along moves x)
-along-other [] x = turns refl
-along-other ((a ⇒ b) ∷ moves) x = on-cond Other (is a x) takes (along-other moves x)
-
-tie-other : (f : Frame) (h : Option ℕ) → Refuses Other (tieTo f h)
-tie-other f none = turns refl
-tie-other f (some h) = takes
-
-untie-other : (f : Frame) (h : Option ℕ) → Refuses Other (untie f h)
-untie-other f none = turns refl
-untie-other f (some h) = takes
-
-pass-other : (f : Frame) (code : ℕ) (h : Option ℕ) → Refuses Other (passOn f code h)
-pass-other f code none = turns refl
-pass-other f code (some h) = takes
-
-new-other : (role : Role) (f : Frame) (h : ℕ) (l : Option (List ℕ)) → Refuses Other (newSession role f h l)
-new-other dialler f h l = turns refl
-new-other listener f h none = turns refl
-new-other listener f h (some []) = turns refl
-new-other listener f h (some (ch ∷ rest)) = takes
-
-begun-other : (role : Role) (c : K.Connection) (f : Frame) (h : ℕ) (rs : List ℕ) → Refuses Other (begun role c f h rs)
-begun-other role c f h [] = new-other role f h (c .handOut)
-begun-other role c f h (r ∷ rs) = tie-other f (c .taken r)
-
-session-other : (role : Role) (c : K.Connection) (f : Frame) (h code : ℕ) (rs : List ℕ) → Refuses Other (sessionRead role c f h code rs)
-session-other role c f h code rs =
-    on-require Other _ _ _ refl
-    (on-cond Other (eqb code 17) (begun-other role c f h rs) (on-cond Other (eqb code 23) (untie-other f (c .ties (f .channel))) (pass-other f code (c .ties (f .channel)))))
-
-open-other : (S : Settings) (c : K.Connection) (f : Frame) (size most idle : ℕ) → Refuses Other (openRead S c f size most idle)
-open-other S c f size most idle = on-then Other _ (along-other readOpen (c .state)) (λ x. takes)
-
-close-other : (c : K.Connection) (f : Frame) (error : Bool) → Refuses Other (closeRead c f error)
-close-other c f error = on-then Other _ (along-other readClose (c .state)) (λ x. takes)
-
-performative-other : (role : Role) (S : Settings) (c : K.Connection) (f : Frame) (h : ℕ) (p : Performative) → Refuses Other (performativeRead role S c f h p)
-performative-other role S c f h p =
-    on-cond Other (eqb (p .code) 24) (close-other c f (hasError (condition 0 p)))
-    (on-cond Other (is Discarding (c .state)) takes
-    (on-cond Other (eqb (p .code) 16) (open-other S c f (maxFrameSize p) (channelMax p) (idleTimeOut p)) (session-other role c f h (p .code) (remoteChannel p))))
+late-other : (x : State) (k : ℕ) → T (unread x k) → Other k
+late-other x k t = ne-eqb k 1 (λ e. subst (λ n. T (unread x n)) e t)
 
 after-other : (role : Role) (S : Settings) (c : K.Connection) (h : ℕ) (r : Frame × Option Performative) → Refuses Other (frameRead role S c h r)
-after-other role S c h (f, none) = takes
-after-other role S c h (f, some p) = performative-other role S c f h p
+after-other role S c h r = refuses-as (late-other (c .state)) (late-frame role S c h r)
 
 lacks-is : (v : Verdict K.Outcome) → lacks v ≡ isMissing v
 lacks-is (refuse k) = refl

@@ -14,13 +14,13 @@ use Rattle.octets.specs.Output.{roomFor, laid}
 use Rattle.octets.proofs.Laws.{require-on, require-off, room-yes, room-no}
 use Rattle.octets.specs.declared.Written.{Written}
 use Rattle.octets.specs.declared.Written.the-variants.{Bytes, Refused as NotWritten}
-use Rattle.performatives.specs.Performative.{Performative, performative}
-use Rattle.performatives.proofs.Laws.{performative-six}
+use Rattle.performatives.specs.Performative.{Performative}
 use Rattle.frame_decoder.specs.Frame.{Frame, frame, bodyIn, anySize, anyChannel, sessionPerformative, sessionFrame, beginsFor}
 use Rattle.frame_encoder.specs.Frames.{limited}
 use Rattle.session_frame.specs.Session.{sessionBytes}
 use Rattle.connection_model.specs.Connection as K
 use Rattle.connection_model.specs.Connection.{Role, dialler, listener, wrote, sendSessionFrame, tiedBy, sessionSent}
+use Rattle.connection_model.proofs.Refusing.{Refuses, takes, turns, on-require, on-then, turned, refused-with, Low, performative-low, frame-low}
 use Rattle.endpoint.specs.Answers.{sentSays}
 use Rattle.connection.specs.View as View
 use Rattle.connection.specs.Promises as C
@@ -38,27 +38,14 @@ use Rattle.engine.specs.Promises.{Does, DoesIn, LandedIn, landedIn, Land
 use Rattle.engine.specs.Sending.{outgoingFrom}
 use Rattle.engine.proofs.Does.{comesTo, refuses, covered-by, uncovered-by, covered-does, roomless-does, uncovered-refuses, ruleOf, inner-refused, inner-accepted, Accepted}
 use Rattle.engine.proofs.Output.{laid-is}
-use Rattle.engine.proofs.Refusing.{Refuses, takes, turns, on-require, on-then, turned, refused-with, by-number}
 use Rattle.engine.proofs.Well.{ending, running-yet}
 use Rattle.engine.proofs.Failing.{keeps-of, keeps-as, keeps-on}
 use Rattle.engine.proofs.Landing.{engineAt, lands-does}
 
 -- ---- which numbers the rule refuses with
 
-abbrev Low : ℕ → Type 0
-Low k = k < 20
-
 abbrev High : ℕ → Type 0
 High k = 20 ≤ k
-
-performative-low : (s : List ℕ) → Refuses Low (performative s)
-performative-low s = by-number (performative s) (λ k e. let x : k ≡ 6 = performative-six s k e in omega arith)
-
-frame-low : (limit highest : ℕ) (s : List ℕ) → Refuses Low (frame limit highest s)
-unfolding frame
-frame-low limit highest s =
-    on-require _ _ _ _ (omega arith) (on-require _ _ _ _ (omega arith) (on-require _ _ _ _ (omega arith) (on-require _ _ _ _ (omega arith) (on-require _ _ _ _ (omega arith)
-    (on-require _ _ _ _ (omega arith) takes)))))
 
 -- the input's refusals are below 20
 session-low : (highest : ℕ) (s : List ℕ) → Refuses Low (sessionFrame highest s)
@@ -66,7 +53,7 @@ unfolding sessionFrame sessionPerformative
 session-low highest s =
     on-then _ _ (frame-low anySize anyChannel s) (λ f.
     on-then _ _
-    (on-then _ _ (performative-low (bodyIn f s)) (λ p. on-require _ _ _ _ (omega arith) (on-require _ _ _ _ (omega arith) (on-require _ _ _ _ (omega arith) takes))))
+    (on-then _ _ (performative-low (bodyIn f s)) (λ p. on-require _ _ _ _ (omega arith) (λ t. on-require _ _ _ _ (omega arith) (λ u. on-require _ _ _ _ (omega arith) (λ v. takes)))))
     (λ p. takes))
 
 tied-high : (role : Role) (rs : List ℕ) (h : Option ℕ) → Refuses High (tiedBy role rs h)
@@ -77,13 +64,13 @@ tied-high listener (r ∷ rs) (some h) = takes
 
 limited-high : (limit : ℕ) (bytes : List ℕ) → Refuses High (limited limit bytes)
 unfolding limited
-limited-high limit bytes = on-require _ _ _ _ (omega arith) takes
+limited-high limit bytes = on-require _ _ _ _ (omega arith) (λ t. takes)
 
 -- and the state's are not
 sent-high : (role : Role) (c : K.Connection) (s : List ℕ) (r : Frame × Performative) → Refuses High (sessionSent role c s r)
 sent-high role c s r =
     on-require _ _ _ _ (omega arith)
-    (on-then _ _ (tied-high role (beginsFor (eqb (r .1 .code) 17) (r .1)) (c .taken (r .0 .channel))) (λ e. on-then _ _ (limited-high (c .writingLimit) (sessionBytes s r)) (λ bytes. takes)))
+    (λ t. on-then _ _ (tied-high role (beginsFor (eqb (r .1 .code) 17) (r .1)) (c .taken (r .0 .channel))) (λ e. on-then _ _ (limited-high (c .writingLimit) (sessionBytes s r)) (λ bytes. takes)))
 
 -- ---- a frame that goes out
 

@@ -2,14 +2,14 @@
 -- Assumes nothing: these are definitions.
 use mathlib.Core.Path.{_≡_}
 use mathlib.Core.Bool.{Bool, true, false, cond, _||_}
-use mathlib.Core.List.{List, [], _∷_}
+use mathlib.Core.List.{List}
 use mathlib.Core.Option.{Option, none, some}
 use Prim.Native.Nat.{ℕ}
 use lib.Dec.{eqb}
 use lib.ListN.{length, drop}
 use Rattle.octets.specs.Verdict.{Verdict, refuse, accept}
 use Rattle.octets.specs.Output.{roomFor, laid}
-use Rattle.connection_state.specs.States.{State, ClosePipe, Discarding, End}
+use Rattle.connection_state.specs.States.{State}
 use Rattle.connection_state.specs.Answers.{stateSays}
 use Rattle.connection.specs.declared.Connection.{Connection}
 use Rattle.engine_model.specs.Engine.{Event, Reply, seen, next, lent, hasRoom}
@@ -21,6 +21,7 @@ use Rattle.connection.specs.declared.NewConnection.the-variants as N
 use Rattle.endpoint.specs.Promises as E
 use Rattle.connection.specs.View as View
 use Rattle.engine_model.specs.Engine as M
+use Rattle.engine_model.specs.Phases.{goesWith}
 use Rattle.engine.specs.declared.ConnectionEngine.{ConnectionEngine}
 use Rattle.engine.specs.declared.Landed.{Landed}
 use Rattle.engine.specs.declared.OnError.{OnError}
@@ -28,7 +29,9 @@ use Rattle.engine.specs.declared.Phase.{Phase}
 use Rattle.engine.specs.declared.Phase.the-variants.{Running}
 use Rattle.engine.specs.declared.NewEngine.{NewEngine}
 use Rattle.engine.specs.declared.NewEngine.the-variants.{Made, Refused}
-use Rattle.engine.specs.Answers.{Whole, whole, connectionIn, roleOf, settingsOf, viewOf, Sound, phaseSays, goesOn}
+use Rattle.engine.specs.declared.ResumedEngine.{ResumedEngine}
+use Rattle.engine.specs.declared.ResumedEngine.the-variants.{Is, Broken}
+use Rattle.engine.specs.Answers.{Whole, whole, engineOf, connectionIn, roleOf, settingsOf, viewOf, Sound, phaseSays, goesOn}
 
 -- the event draws this reply, leaves this output, and leads to this engine, as the definition has it
 pub record Meets (event : Event) (before : Whole) (r : Verdict Reply) (out : List ℕ) (later : Whole) : Type 0 where
@@ -56,6 +59,10 @@ newIn (Refused k) = N.Refused k
 pub record Makes (role : Role) (S : Settings) (t : List ℕ) (r : NewEngine) (t′ : List ℕ) : Type 0 where
   pub made : C.Makes role S t (newIn r) t′
   pub runs : (e : ConnectionEngine) → r ≡ Made e → e .phase ≡ Running
+
+-- an engine that was kept, if its phase goes with its connection's state
+abbrev pub resumedAs : Phase → Connection → ResumedEngine
+resumedAs p c = cond (goesWith (phaseSays p) (stateSays (c .«local_state»))) (Is (engineOf p c)) Broken
 
 -- ---- between the private functions
 
@@ -103,10 +110,6 @@ pub record Keeps (c d : View.Whole) : Type 0 where
 pub record Fails (f : Option M.Fault) (c : View.Whole) (n : ℕ) (out out′ : List ℕ) (r : LandedIn) : Type 0 where
   pub fails-keeps : Keeps c (r .connection)
   pub fails : View.Sound c → (bytes lent : List ℕ) → n ≡ length bytes → out ≡ laid (accept bytes) lent → roomFor 0 lent ≡ true → roomFor 0 (drop n out) ≡ true → Lands (M.fail (View.roleOf c) (View.settingsOf c) f (View.viewOf c) bytes lent) lent out′ r
-
--- the states in which the input may end
-abbrev pub endable : List State
-endable = ClosePipe ∷ Discarding ∷ End ∷ []
 
 -- the input ends while the engine runs
 pub record Ends (c : View.Whole) (out out′ : List ℕ) (r : LandedIn) : Type 0 where

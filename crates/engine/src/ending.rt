@@ -20,10 +20,11 @@ ghost use Rattle.connection_state.specs.States.{isOneOf};
 ghost use Rattle.endpoint.specs.Answers.{roleSays};
 ghost use Rattle.connection.specs.View as View;
 ghost use Rattle.engine_model.specs.Engine as M;
-ghost use Rattle.engine_model.specs.Engine.{cutShort, notDelivered, endOfInput};
+ghost use Rattle.engine_model.specs.Engine.{fine, cutShort, notDelivered, endOfInput};
+ghost use Rattle.engine_model.specs.Phases.{stopsIn};
 ghost use Rattle.engine.specs.declared.Running.the-variants.{Refused as NotRun};
 ghost use Rattle.engine.specs.Answers.{whole, phaseSays, errorSays, replySays, Bare};
-ghost use Rattle.engine.specs.Promises.{Does, Ends, Handled, endable, landedIn};
+ghost use Rattle.engine.specs.Promises.{Does, Ends, Handled, landedIn};
 
 // What could not be delivered.
 fn undelivered(role: Role, new_session: bool) -> InnerError
@@ -39,8 +40,8 @@ fn undelivered(role: Role, new_session: bool) -> InnerError
 }
 
 // Whether the input may end in a state: the Close is on its way, or the connection is over.
-fn may_end(state: ConnectionState) -> bool
-    ensures { λ r. ⌜ r ≡ isOneOf endable (stateSays state) ⌝ }
+pub(crate) fn may_end(state: ConnectionState) -> bool
+    ensures { λ r. ⌜ r ≡ isOneOf (stopsIn fine) (stateSays state) ⌝ }
 {
     match state {
         ConnectionState::ClosePipe => true,

@@ -5,6 +5,7 @@ mod error;
 mod heartbeat;
 mod incoming;
 mod opening;
+mod resuming;
 pub mod room;
 mod sending;
 mod settling;
@@ -23,8 +24,8 @@ ghost use mathlib.Core.Bool.{not};
 ghost use Rattle.frame_encoder.specs.Answers.{settings};
 ghost use Rattle.connection_model.specs.Connection.{dialler, listener};
 ghost use Rattle.engine_model.specs.Engine.{isRunning, isStopped};
-ghost use Rattle.engine.specs.Answers.{engineOf, phaseSays, goesOn};
-ghost use Rattle.engine.specs.Promises.{Makes, Runs};
+ghost use Rattle.engine.specs.Answers.{phaseSays, goesOn};
+ghost use Rattle.engine.specs.Promises.{Makes, Runs, resumedAs};
 
 // How an engine ends.
 pub enum Outcome {
@@ -60,6 +61,12 @@ pub struct ConnectionEngine {
 pub enum NewEngine {
     Made(ConnectionEngine),
     Refused(u8),
+}
+
+// An engine that was kept, or that events cannot lead to its phase in its connection's state.
+pub enum ResumedEngine {
+    Is(ConnectionEngine),
+    Broken,
 }
 
 pub struct OpeningSent {
@@ -198,11 +205,14 @@ impl ConnectionEngine {
         self.phase
     }
 
-    // An engine in this phase, with this connection. It is as sound as its connection.
-    pub fn resumed(phase: Phase, connection: Connection) -> ConnectionEngine
-        ensures { λ r. ⌜ r ≡ engineOf phase connection ⌝ }
+    // An engine that was kept: a phase, and a connection in a state that goes with it. It is as sound as its connection.
+    pub fn resumed(phase: Phase, connection: Connection) -> ResumedEngine
+        ensures { λ r. ⌜ r ≡ resumedAs phase connection ⌝ }
     {
-        ConnectionEngine { phase, connection }
+        if resuming::goes_with(phase, connection.state()) {
+            return ResumedEngine::Is(ConnectionEngine { phase, connection });
+        }
+        ResumedEngine::Broken
     }
 
     // Whether the engine goes on

@@ -23,6 +23,7 @@ use Rattle.channels.specs.declared.OutgoingChannels.{OutgoingChannels}
 use Rattle.local_open.specs.Settings.{allowed, checked}
 use Rattle.endpoint.specs.Promises.{limitsOk}
 use Rattle.engine_model.specs.Engine.{Phase}
+use Rattle.engine_model.specs.Phases.{goesWith}
 use Rattle.engine_bytes.specs.Bytes.{Fixed, at, version, idAt, tablesAt, fixedSize, orBroken, roleWith, phaseWith, settingsAt, numbersAt, restAt, fixedAt}
 
 -- ---- what the parts say
@@ -40,6 +41,7 @@ pub record Says (s : List ℕ) (f : Fixed) : Type 0 where
   pub writing-said : at 24 4 s ≡ f .writingLimit
   pub limits-fine : limitsOk (f .settings) (f .state) (f .readingLimit) (f .writingLimit) (agreedSays (f .numbers)) ≡ true
   pub tables-cover : covers (suc (f .settings .channelMax)) (tablesAt s) ≡ true
+  pub phase-goes : goesWith (f .phase) (f .state) ≡ true
 
 abbrev settingsOf : Bool → List ℕ → Settings
 settingsOf idle s = record { containerId = idAt s; maxFrameSize = at 8 4 s; channelMax = at 6 2 s; idleTimeOut = held idle (at 12 4 s) }
@@ -63,17 +65,18 @@ says-fixed s f p =
     ∙ then-accept _ _ _ (p .numbers-said)
     ∙ require-on 8 _ _ (p .tables-cover)
     ∙ require-on 8 _ _ (rw (p .reading-said, p .writing-said) (p .limits-fine))
+    ∙ require-on 8 _ _ (p .phase-goes)
     ∙ (λ i. accept (record { role = f .role; settings = f .settings; phase = f .phase; state = f .state; readingLimit = p .reading-said i; writingLimit = p .writing-said i; numbers = f .numbers }))
 
 -- what was accepted, step by step
 fixed-part : (s : List ℕ) (role : Role) (phase : Phase) (x : State) (S : Settings) (n : OutgoingChannels) (f : Fixed)
     → fixedSize ≤ length s → at 0 4 s ≡ bigEndian version → roleWith (at 4 1 s) ≡ some role → phaseWith (at 16 1 s) (at 17 1 s) ≡ some phase
     → withNumber (at 18 1 s) ≡ some x → settingsAt s ≡ accept S → numbersAt s ≡ accept n
-    → limitsOk S x (at 20 4 s) (at 24 4 s) (agreedSays n) ≡ true → covers (suc (S .channelMax)) (tablesAt s) ≡ true
+    → limitsOk S x (at 20 4 s) (at 24 4 s) (agreedSays n) ≡ true → covers (suc (S .channelMax)) (tablesAt s) ≡ true → goesWith phase x ≡ true
     → accept (record { role = role; settings = S; phase = phase; state = x; readingLimit = at 20 4 s; writingLimit = at 24 4 s; numbers = n }) ≡ accept f → Says s f
-fixed-part s role phase x S n f long named r p q t u l c e =
+fixed-part s role phase x S n f long named r p q t u l c g e =
     let z : record { role = role; settings = S; phase = phase; state = x; readingLimit = at 20 4 s; writingLimit = at 24 4 s; numbers = n } ≡ f = cc in
-    subst (λ g. Says s g) z (record {
+    subst (Says s) z (record {
       long = long;
       named = named;
       role-said = r;
@@ -85,6 +88,7 @@ fixed-part s role phase x S n f long named r p q t u l c e =
       writing-said = refl;
       limits-fine = l;
       tables-cover = c;
+      phase-goes = g;
     })
 
 pub fixed-says : (s : List ℕ) (f : Fixed) → fixedAt s ≡ accept f → Says s f
@@ -99,9 +103,10 @@ fixed-says s f e =
     let n = then-was _ _ f (S .2) in
     let cover = require-was 8 _ _ f (n .2) in
     let limits = require-was 8 _ _ f (cover .1) in
+    let goes = require-was 8 _ _ f (limits .1) in
     fixed-part s (role .0) (phase .0) (x .0) (S .0) (n .0) f
     (leb-true 300 (length s) (long .0)) (eqb-true _ _ (named .0)) (or-was _ _ (role .1)) (or-was _ _ (phase .1)) (or-was _ _ (x .1)) (S .1) (n .1)
-    (limits .0) (cover .0) (limits .1)
+    (limits .0) (cover .0) (goes .0) (goes .1)
 
 -- ---- the container-id
 
@@ -121,9 +126,6 @@ module _ (s : List ℕ) (f : Fixed) (p : Says s f) where
 
   pub said-allowed : allowed (f .settings) ≡ true
   said-allowed = ap allowed (sym (settings-are .2)) ∙ settings-are .1
-
-  pub said-id : f .settings .containerId ≡ idAt s
-  said-id = ap (λ S. S .containerId) (sym (settings-are .2))
 
   pub id-low : at 42 2 s ≤ 255
   id-low =

@@ -25,6 +25,7 @@ use Rattle.channels.specs.declared.OutgoingChannels.{OutgoingChannels}
 use Rattle.local_open.specs.Settings.{checked}
 use Rattle.endpoint.specs.Promises.{limitsOk}
 use Rattle.engine_model.specs.Engine.{Outcome, fine, transportError, illegalState, notFound, notImplemented, remoteClosed, remoteClosedWithError, Phase, running, awaiting, stopped}
+use Rattle.engine_model.specs.Phases.{goesWith}
 use Rattle.engine_bytes.specs.Bytes.{Fixed, at, idAt, tablesAt, fixedSize, orBroken, roleNumber, roleWith, outcomeNumber, outcomeWith, phaseBytes, inPhase, phaseWith, flagWith, settingsAt, numbersAt, numberBytes, movingBytes}
 use Rattle.engine_bytes.proofs.Parts.{inside, before-put, after-put, in-put, number-front}
 use Rattle.engine_bytes.proofs.Fixed.{Says, id-low}
@@ -235,8 +236,8 @@ module _ (f : Fixed) where
 
     -- bytes that say a fixed part say another with the same role and settings, once what calls can change of it was laid
     pub says-moved : (g : Fixed) → Says s g → f .role ≡ g .role → f .settings ≡ g .settings → countsOk n ≡ true
-        → limitsOk (f .settings) (f .state) (f .readingLimit) (f .writingLimit) (agreedSays n) ≡ true → Says s′ f
-    says-moved g p same-role same-settings ok limits = record {
+        → limitsOk (f .settings) (f .state) (f .readingLimit) (f .writingLimit) (agreedSays n) ≡ true → goesWith (f .phase) (f .state) ≡ true → Says s′ f
+    says-moved g p same-role same-settings ok limits goes = record {
       long = omega (arith, length-put s 16 m);
       named = same-before 0 4 (omega arith) ∙ p .named;
       role-said = ap roleWith (same-before 4 1 (omega arith)) ∙ p .role-said ∙ ap some (sym same-role);
@@ -248,6 +249,7 @@ module _ (f : Fixed) where
       writing-said = writing-laid;
       limits-fine = limits;
       tables-cover = ap₂ (λ S t. covers (suc (S .channelMax)) t) same-settings tables-same ∙ p .tables-cover;
+      phase-goes = goes;
     }
 
 -- ---- other tables of the same length
@@ -302,4 +304,5 @@ module _ (s t : List ℕ) (long : fixedSize ≤ length s) (same : length t ≡ l
     writing-said = at-same 24 4 (omega arith) ∙ p .writing-said;
     limits-fine = p .limits-fine;
     tables-cover = ap (λ l. leb (28 * suc (f .settings .channelMax)) (length l)) tables-are ∙ ap (leb (28 * suc (f .settings .channelMax))) same ∙ p .tables-cover;
+    phase-goes = p .phase-goes;
   }

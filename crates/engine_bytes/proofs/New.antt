@@ -18,6 +18,7 @@ use Rattle.channels.specs.Places.{covers}
 use Rattle.channels.specs.Channels.{countsOk, agreedSays}
 use Rattle.local_open.specs.Settings.{allowed, checked}
 use Rattle.endpoint.specs.Promises.{limitsOk}
+use Rattle.engine_model.specs.Phases.{goesWith}
 use Rattle.engine_bytes.specs.Bytes.{Fixed, at, version, idAt, tablesAt, fixedSize, orBroken, roleNumber, roleWith, phaseWith, flagWith, settingsAt, numbersAt, movingBytes, settingBytes, fixedBytes, isThere, idleNumber}
 use Rattle.engine_bytes.proofs.Parts.{inside, take-front, after-put, in-put, put-again}
 use Rattle.engine_bytes.proofs.Fixed.{Says}
@@ -148,8 +149,8 @@ module _ (f : Fixed) (r : Roomy f) (q : SettingsRoomy (f .settings)) where
 
     -- bytes say a fixed part that was laid whole
     pub says-new : allowed S ≡ true → countsOk (f .numbers) ≡ true → limitsOk S (f .state) (f .readingLimit) (f .writingLimit) (agreedSays (f .numbers)) ≡ true
-        → covers (suc (S .channelMax)) (tablesAt s) ≡ true → Says s′ f
-    says-new ok counted limits cover = record {
+        → covers (suc (S .channelMax)) (tablesAt s) ≡ true → goesWith (f .phase) (f .state) ≡ true → Says s′ f
+    says-new ok counted limits cover goes = record {
       long = long′;
       named = found 0 4 (omega arith) ∙ named-in;
       role-said = ap roleWith (found 4 1 (omega arith) ∙ number-in a _ 4 1 _ d4 (role-low (f .role))) ∙ role-back (f .role);
@@ -161,4 +162,5 @@ module _ (f : Fixed) (r : Roomy f) (q : SettingsRoomy (f .settings)) where
       writing-said = subst (λ l. at 24 4 l ≡ f .writingLimit) again (writing-laid f r s′ long′);
       limits-fine = limits;
       tables-cover = ap (covers (suc (S .channelMax))) tables-new ∙ cover;
+      phase-goes = goes;
     }

@@ -12,34 +12,23 @@ use Rattle.octets.specs.Verdict.{Verdict, accept}
 use Rattle.frame_encoder.specs.Frames.{Settings}
 use Rattle.frame_encoder.proofs.Laws.{Within, settings-within}
 use Rattle.connection_state.specs.Answers.{stateSays}
-use Rattle.connection_model.specs.Connection as M
 use Rattle.connection_model.specs.Connection.{Role}
 use Rattle.connection_model.specs.Sound.{Reached}
-use Rattle.channels.specs.Numbers.{Shared}
-use Rattle.channels.specs.Places.{Covers}
 use Rattle.channels.specs.Channels.{agreedSays}
 use Rattle.channels.specs.declared.OutgoingChannels.{OutgoingChannels}
-use Rattle.channels.proofs.Kept.{covers-true, covers-fewer}
 use Rattle.channels.proofs.Limits.{opened-limits, closed-limits, used-low}
 use Rattle.endpoint.specs.Promises as E
-use Rattle.endpoint.specs.Answers.{placesOf}
 use Rattle.endpoint.proofs.Limits.{limits-counted, reached-limits}
 use Rattle.connection.specs.View as C
+use Rattle.connection.proofs.Making.{counted-sound}
 use Rattle.engine_model.specs.Engine.{Engine}
+use Rattle.engine_model.specs.Phases.{goesWith}
 use Rattle.engine.specs.declared.ConnectionEngine.{ConnectionEngine}
-use Rattle.engine.specs.Answers.{Whole, whole, connectionIn, roleOf, settingsOf, viewOf, Sound}
+use Rattle.engine.specs.Answers.{Whole, whole, connectionIn, roleOf, settingsOf, viewOf, phaseSays, Sound}
 use Rattle.engine_bytes.specs.Bytes.{Fixed, idAt, tablesAt, fixedSize, fixedAt, engineIn, movingBytes, StandFor}
 use Rattle.engine_bytes.specs.Promises.{fixedIn}
 use Rattle.engine_bytes.proofs.Fixed.{Says, says-fixed, fixed-says, said-allowed, said-counts}
 use Rattle.engine_bytes.proofs.Laid.{Roomy, says-moved, says-tables, tables-are, tables-same}
-
--- ---- what calls lead to
-
-shared-of : (S : Settings) (c : M.Connection) → Reached S c → (o : Option ℕ) → c .agreedMax ≡ o → Shared o (c .handOut) (c .taken)
-shared-of S c r none e =
-    let f = r .unopened e .at-first in
-    subst (λ d. Shared none (d .handOut) (d .taken)) (sym f) refl
-shared-of S c r (some m) e = r .agreed m e .shared
 
 -- ---- an engine that was read
 
@@ -53,23 +42,8 @@ module _ (s : List ℕ) (e : ConnectionEngine) (read : fixedAt s ≡ accept (fix
   pub read-counted : E.Counted (e .connection .endpoint)
   read-counted = limits-counted (e .connection .endpoint) (idAt s) (stateSays (e .connection .«local_state»)) (said-counts s _ said) (said .limits-fine)
 
-  read-covered : Covers (placesOf (e .connection .endpoint)) (tablesAt s)
-  read-covered = covers-true _ _ (said .tables-cover)
-
   pub read-sound : Reached (settingsOf readWhole) (viewOf readWhole .connection) → Sound readWhole
-  read-sound r = record {
-    fine = said-allowed s _ said;
-    held = record {
-      covered = read-covered;
-      most = read-counted .1;
-      numbers = record {
-        within = read-counted .0;
-        covered = covers-fewer _ _ (tablesAt s) (read-counted .1) read-covered;
-        shared = shared-of (settingsOf readWhole) (viewOf readWhole .connection) r _ refl;
-      };
-    };
-    reached = r;
-  }
+  read-sound r = counted-sound (connectionIn readWhole) (said-allowed s _ said) (said .tables-cover) read-counted r
 
   -- bytes stand for one engine at most: the one that is read from them
   pub stand-only : (role : Role) (S : Settings) (x : Engine) → StandFor s role S x → (roleOf readWhole ≡ role) × (settingsOf readWhole ≡ S) × (viewOf readWhole ≡ x) × Sound readWhole
@@ -82,9 +56,6 @@ module _ (s : List ℕ) (e : ConnectionEngine) (read : fixedAt s ≡ accept (fix
     where
       inside : {f g : Fixed} → _≡_ {A = Verdict Fixed} (accept f) (accept g) → f ≡ g
       inside q = cc
-
-  pub read-stands : Reached (settingsOf readWhole) (viewOf readWhole .connection) → StandFor s (roleOf readWhole) (settingsOf readWhole) (viewOf readWhole)
-  read-stands r = record { fixed = fixedIn e (idAt s); reads = read; role-is = refl; settings-is = refl; engine-is = refl; reached = r }
 
 -- ---- numbers of a sound engine have room where they stand
 
@@ -146,7 +117,7 @@ module _ (s : List ℕ) (e : ConnectionEngine) (read : fixedAt s ≡ accept (fix
   abbrev pub laidState : List ℕ
   laidState = put given 16 (movingBytes (fixedIn later []))
 
-  module _ (z : Sound (whole later t (idAt s))) where
+  module _ (z : Sound (whole later t (idAt s))) (goes : goesWith (phaseSays (later .phase)) (stateSays (later .connection .«local_state»)) ≡ true) where
     roomy : Roomy (fixedIn later (idAt s))
     roomy = sound-roomy later t (idAt s) z
 
@@ -156,7 +127,7 @@ module _ (s : List ℕ) (e : ConnectionEngine) (read : fixedAt s ≡ accept (fix
     laid-says : Says (put given 16 (movingBytes (fixedIn later (idAt s)))) (fixedIn later (idAt s))
     laid-says =
         says-moved (fixedIn later (idAt s)) roomy given long-given (fixedIn e (idAt s)) given-says (same .same-role) (same .same-settings)
-        (z .held .numbers .within) (reached-limits (settingsOf (whole later t (idAt s))) (viewOf (whole later t (idAt s)) .connection) (z .reached))
+        (z .held .numbers .within) (reached-limits (settingsOf (whole later t (idAt s))) (viewOf (whole later t (idAt s)) .connection) (z .reached)) goes
 
     pub laid-stands : StandFor laidState (roleOf (whole e (tablesAt s) (idAt s))) (settingsOf (whole e (tablesAt s) (idAt s))) (viewOf (whole later t (idAt s)))
     laid-stands = subst

@@ -18,10 +18,9 @@ use Rattle.connection_state.specs.declared.NumberedState.{NumberedState}
 use Rattle.connection_state.specs.declared.NumberedState.the-variants as NV
 use Rattle.connection_state.specs.Answers.{stateSays, numberedSays}
 use Rattle.connection_state.specs.States.{withNumber}
-use Rattle.channels.specs.declared.OutgoingChannels.{OutgoingChannels}
 use Rattle.channels.specs.declared.Resumed.{Resumed}
 use Rattle.layout.specs.Layout.{held}
-use Rattle.channels.specs.Channels.{counts, countsOk, agreedSays}
+use Rattle.channels.specs.Channels.{agreedSays}
 use Rattle.channels.specs.Places.{covers}
 use Rattle.local_open.specs.declared.LocalOpen.{LocalOpen}
 use Rattle.local_open.specs.declared.NewOpen.{NewOpen}
@@ -36,12 +35,13 @@ use Rattle.connection.specs.declared.Connection.{Connection}
 use Rattle.connection.specs.declared.ResumedConnection.{ResumedConnection}
 use Rattle.connection.specs.declared.ResumedConnection.the-variants as C
 use Rattle.connection.specs.Promises.{resumedIn}
+use Rattle.engine_model.specs.Phases.{goesWith}
 use Rattle.engine.specs.declared.Phase.{Phase}
-use Rattle.engine.specs.declared.ConnectionEngine.{ConnectionEngine}
 use Rattle.engine.specs.Answers.{phaseSays, engineOf}
+use Rattle.engine.specs.Promises as Engine
 use Rattle.engine.proofs.Output.{rest-is}
-use Rattle.engine_bytes.specs.declared.EngineRead.{EngineRead}
-use Rattle.engine_bytes.specs.declared.EngineRead.the-variants.{Is, Broken}
+use Rattle.engine.specs.declared.ResumedEngine.{ResumedEngine}
+use Rattle.engine.specs.declared.ResumedEngine.the-variants.{Is, Broken}
 use Rattle.engine_bytes.specs.declared.numbers.RoleRead.{RoleRead}
 use Rattle.engine_bytes.specs.declared.numbers.RoleRead.the-variants as R
 use Rattle.engine_bytes.specs.declared.numbers.PhaseRead.{PhaseRead}
@@ -81,13 +81,6 @@ settings-eight s =
     eight-then (orBroken (flagWith (at 5 1 s))) _ (eight-or (flagWith (at 5 1 s))) (λ idle.
     let S : Settings = record { containerId = idAt s; maxFrameSize = at 8 4 s; channelMax = at 6 2 s; idleTimeOut = held idle (at 12 4 s) } in
     eight-require (allowed S) (λ _. accept S) (eight-accept S))
-
-numbers-eight : (s : List ℕ) → Eight (numbersAt s)
-unfolding numbersAt
-numbers-eight s =
-    eight-then (orBroken (flagWith (at 19 1 s))) _ (eight-or (flagWith (at 19 1 s))) (λ agreed.
-    let n : OutgoingChannels = counts agreed (at 40 2 s) (at 28 4 s) (at 32 4 s) (at 36 4 s) in
-    eight-require (countsOk n) (λ _. accept n) (eight-accept n))
 
 -- ---- read_rest
 
@@ -138,27 +131,14 @@ module _ (s : List ℕ) (role : Role) (phase : Phase) (state : ConnectionState) 
           kept-by : (b : Bool) → limits [] ≡ b → re ≡ resumedIn state (cond b (E.Is (endpointOf role local reading writing (co .channels))) E.Broken)
           kept-by b q = re-is ∙ ap (λ x. resumedIn state (cond x (E.Is (endpointOf role local reading writing (co .channels))) E.Broken)) q
 
-          rest-by : rest ≡ require 8 (limits []) (λ _. accept (record {
-            role = roleSays role;
-            settings = openSays (idAt s) local;
-            phase = phaseSays phase;
-            state = stateSays state;
-            readingLimit = at 20 4 s;
-            writingLimit = at 24 4 s;
-            numbers = co .channels;
-          }))
+          abbrev told : Fixed
+          told = record { role = roleSays role; settings = openSays (idAt s) local; phase = phaseSays phase; state = stateSays state; readingLimit = at 20 4 s; writingLimit = at 24 4 s; numbers = co .channels }
+
+          rest-by : rest ≡ require 8 (limits []) (λ _. require 8 (goesWith (phaseSays phase) (stateSays state)) (λ _. accept told))
           unfolding restAt
           rest-by =
               then-accept _ _ _ settings-read ∙ then-accept _ _ _ numbers-read ∙ require-on 8 _ _ (covered-is ∙ not-false b long)
-              ∙ ap (λ x. require 8 x (λ _. accept (record {
-                role = roleSays role;
-                settings = openSays (idAt s) local;
-                phase = phaseSays phase;
-                state = stateSays state;
-                readingLimit = at 20 4 s;
-                writingLimit = at 24 4 s;
-                numbers = co .channels;
-              }))) same-limits
+              ∙ ap (λ x. require 8 x (λ _. require 8 (goesWith (phaseSays phase) (stateSays state)) (λ _. accept told))) same-limits
 
           pub rest-not-kept : re ≡ C.Broken → refuse 8 ≡ rest
           rest-not-kept u = by (limits []) refl
@@ -170,7 +150,23 @@ module _ (s : List ℕ) (role : Role) (phase : Phase) (state : ConnectionState) 
                   never x = cc
               by false q = sym (rest-by ∙ require-off 8 _ _ q)
 
-          pub rest-kept : (c : Connection) → re ≡ C.Is c → (e : ConnectionEngine) → e ≡ engineOf phase c → readSays (idAt s) (Is e) ≡ rest
+          kept-told : readSays (idAt s) (Is (engineOf phase kept)) ≡ accept told
+          kept-told = λ i. accept (record {
+            role = roleSays role;
+            settings = openSays (idAt s) local;
+            phase = phaseSays phase;
+            state = stateSays state;
+            readingLimit = reading-is i;
+            writingLimit = writing-is i;
+            numbers = co .channels;
+          })
+
+          goes-told : (d : Bool) → readSays (idAt s) (cond d (Is (engineOf phase kept)) Broken) ≡ require 8 d (λ _. accept told)
+          unfolding require
+          goes-told true = kept-told
+          goes-told false = refl
+
+          pub rest-kept : (c : Connection) → re ≡ C.Is c → (e : ResumedEngine) → e ≡ Engine.resumedAs phase c → readSays (idAt s) e ≡ rest
           rest-kept c u e made = by (limits []) refl
             where
               same : _≡_ {A = ResumedConnection} (C.Is c) (C.Is kept) → c ≡ kept
@@ -179,18 +175,10 @@ module _ (s : List ℕ) (role : Role) (phase : Phase) (state : ConnectionState) 
               never : _≡_ {A = ResumedConnection} (C.Is c) C.Broken → _≡_ {A = ℕ} 0 1
               never x = cc
 
-              by : (b : Bool) → limits [] ≡ b → readSays (idAt s) (Is e) ≡ rest
+              by : (b : Bool) → limits [] ≡ b → readSays (idAt s) e ≡ rest
               by true q =
-                  ap (λ x. readSays (idAt s) (Is x)) (made ∙ ap (engineOf phase) (same (sym u ∙ kept-by true q)))
-                  ∙ (λ i. accept (record {
-                    role = roleSays role;
-                    settings = openSays (idAt s) local;
-                    phase = phaseSays phase;
-                    state = stateSays state;
-                    readingLimit = reading-is i;
-                    writingLimit = writing-is i;
-                    numbers = co .channels;
-                  }))
+                  ap (readSays (idAt s)) (made ∙ ap (Engine.resumedAs phase) (same (sym u ∙ kept-by true q)))
+                  ∙ goes-told (goesWith (phaseSays phase) (stateSays state))
                   ∙ sym (rest-by ∙ require-on 8 _ _ q)
               by false q = let z : _≡_ {A = ℕ} 0 1 = never (sym u ∙ kept-by false q) in absurd (omega arith)
 
@@ -245,7 +233,7 @@ module _ (s : List ℕ) where
               sym (require-on 8 _ _ long-enough ∙ require-on 8 _ _ name-right ∙ then-accept _ _ _ role-read ∙ then-accept _ _ _ phase-read
               ∙ then-refuse _ _ 8 (ap orBroken (state-at ∙ ap numberedSays u)))
 
-          pub read-all : (state : ConnectionState) → st ≡ NV.Is state → (r : EngineRead) → readSays (idAt s) r ≡ restAt (roleSays role) (phaseSays phase) (stateSays state) s → readSays (idAt s) r ≡ fixedAt s
+          pub read-all : (state : ConnectionState) → st ≡ NV.Is state → (r : ResumedEngine) → readSays (idAt s) r ≡ restAt (roleSays role) (phaseSays phase) (stateSays state) s → readSays (idAt s) r ≡ fixedAt s
           unfolding fixedAt
           read-all state st-known r e =
               e ∙ sym (require-on 8 _ _ long-enough ∙ require-on 8 _ _ name-right ∙ then-accept _ _ _ role-read ∙ then-accept _ _ _ phase-read

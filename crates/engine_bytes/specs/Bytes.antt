@@ -29,6 +29,7 @@ use Rattle.layout.specs.Layout.{held}
 use Rattle.local_open.specs.Settings.{checked}
 use Rattle.endpoint.specs.Promises.{limitsOk}
 use Rattle.engine_model.specs.Engine.{Outcome, fine, transportError, illegalState, notFound, notImplemented, remoteClosed, remoteClosedWithError, Phase, running, awaiting, stopped, Engine}
+use Rattle.engine_model.specs.Phases.{goesWith}
 
 -- ---- numbers for roles, outcomes and phases
 
@@ -119,14 +120,15 @@ numbersAt s =
     require 8 (countsOk (counts agreed (at 40 2 s) (at 28 4 s) (at 32 4 s) (at 36 4 s))) (λ _.
     accept (counts agreed (at 40 2 s) (at 28 4 s) (at 32 4 s) (at 36 4 s))))
 
--- what the rest says in a role, a phase and a state, or 8: tables with a place for each channel, of which only their length is judged, and limits and numbers that calls can lead to
+-- what the rest says in a role, a phase and a state, or 8: tables with a place for each channel, of which only their length is judged, limits and numbers that calls can lead to, and a phase that goes with the state
 unfoldable pub restAt : Role → Phase → State → List ℕ → Verdict Fixed
 restAt role phase x s =
     andThen (settingsAt s) (λ S.
     andThen (numbersAt s) (λ numbers.
     require 8 (covers (suc (S .channelMax)) (tablesAt s)) (λ _.
     require 8 (limitsOk S x (at 20 4 s) (at 24 4 s) (agreedSays numbers)) (λ _.
-    accept (record { role = role; settings = S; phase = phase; state = x; readingLimit = at 20 4 s; writingLimit = at 24 4 s; numbers = numbers })))))
+    require 8 (goesWith phase x) (λ _.
+    accept (record { role = role; settings = S; phase = phase; state = x; readingLimit = at 20 4 s; writingLimit = at 24 4 s; numbers = numbers }))))))
 
 -- what the fixed part says, or 8
 unfoldable pub fixedAt : List ℕ → Verdict Fixed

@@ -20,8 +20,8 @@ use Rattle.engine_bytes.specs.declared.numbers.PhaseRead.{PhaseRead}
 use Rattle.engine_bytes.specs.declared.numbers.PhaseRead.the-variants as P
 use Rattle.engine_bytes.specs.declared.numbers.RoleRead.{RoleRead}
 use Rattle.engine_bytes.specs.declared.numbers.RoleRead.the-variants as R
-use Rattle.engine_bytes.specs.declared.EngineRead.{EngineRead}
-use Rattle.engine_bytes.specs.declared.EngineRead.the-variants.{Is, Broken}
+use Rattle.engine.specs.declared.ResumedEngine.{ResumedEngine}
+use Rattle.engine.specs.declared.ResumedEngine.the-variants.{Is, Broken}
 use Rattle.engine_bytes.specs.Bytes.{Fixed}
 
 -- what is fixed of an engine with its container-id
@@ -36,7 +36,7 @@ fixedIn e id = record {
   numbers = e .connection .endpoint .outgoing;
 }
 
-abbrev pub readSays : List ℕ → EngineRead → Verdict Fixed
+abbrev pub readSays : List ℕ → ResumedEngine → Verdict Fixed
 readSays id (Is e) = accept (fixedIn e id)
 readSays id Broken = refuse 8
 

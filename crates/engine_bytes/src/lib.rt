@@ -11,6 +11,7 @@ use connection_state::NumberedState;
 use endpoint::Role;
 use engine::ConnectionEngine;
 use engine::Phase;
+use engine::ResumedEngine;
 use frame_encoder::IdleTimeOut;
 use local_open::LocalOpen;
 use local_open::NewOpen;
@@ -46,12 +47,6 @@ const VERSION: u32 = 0x48535032;
 pub const ID: usize = 44;
 
 const ID_MAX: usize = 255;
-
-// An engine that was read, or that the bytes stand for none.
-pub enum EngineRead {
-    Is(ConnectionEngine),
-    Broken,
-}
 
 // The number in two bytes from a place on.
 fn two_at(s: &[u8], i: usize) -> u16
@@ -121,49 +116,49 @@ fn read_counts(s: &[u8]) -> Resumed
 }
 
 // The engine that bytes stand for.
-pub fn from_bytes(s: &[u8]) -> EngineRead
+pub fn from_bytes(s: &[u8]) -> ResumedEngine
     ensures { λ r. ⌜ readSays (idAt (now (s .entry))) r ≡ fixedAt (now (s .entry)) ⌝ }
 {
     if s.len() < FIXED_SIZE {
-        return EngineRead::Broken;
+        return ResumedEngine::Broken;
     }
     if four_at(s, 0) != VERSION {
-        return EngineRead::Broken;
+        return ResumedEngine::Broken;
     }
     let RoleRead::Is(role) = numbers::role_with(s[4]) else {
-        return EngineRead::Broken;
+        return ResumedEngine::Broken;
     };
     let PhaseRead::Is(phase) = numbers::phase_with(s[16], s[17]) else {
-        return EngineRead::Broken;
+        return ResumedEngine::Broken;
     };
     let NumberedState::Is(state) = ConnectionState::with_number(s[18]) else {
-        return EngineRead::Broken;
+        return ResumedEngine::Broken;
     };
     read_rest(s, role, phase, state)
 }
 
 // The engine in a role, a phase and a state whose other numbers stand in the bytes.
-fn read_rest(s: &[u8], role: Role, phase: Phase, state: ConnectionState) -> EngineRead
+fn read_rest(s: &[u8], role: Role, phase: Phase, state: ConnectionState) -> ResumedEngine
     requires { ⌜ 300 ≤ length (now s) ⌝ }
     ensures { λ r. ⌜ readSays (idAt (now (s .entry))) r ≡ restAt (roleSays role) (phaseSays phase) (stateSays state) (now (s .entry)) ⌝ }
 {
     let NewOpen::Taken(open) = read_open(s) else {
-        return EngineRead::Broken;
+        return ResumedEngine::Broken;
     };
     let counts = read_counts(s);
     if !counts.fine {
-        return EngineRead::Broken;
+        return ResumedEngine::Broken;
     }
     if !covers(&s[FIXED_SIZE..], open.channel_max()) {
-        return EngineRead::Broken;
+        return ResumedEngine::Broken;
     }
     let outgoing = counts.channels;
     let reading = four_at(s, 20);
     let resumed = Connection::resumed(state, role, open, reading, four_at(s, 24), outgoing);
     let ResumedConnection::Is(connection) = resumed else {
-        return EngineRead::Broken;
+        return ResumedEngine::Broken;
     };
-    EngineRead::Is(ConnectionEngine::resumed(phase, connection))
+    ConnectionEngine::resumed(phase, connection)
 }
 
 // Lays the counts from 28 on, if they fit there.

@@ -21,7 +21,6 @@ use Rattle.connection_model.specs.Sound.{Reached}
 use Rattle.connection_model.proofs.Rules.{Holds, refused, holds, on-require, on-any, on-andThen}
 use Rattle.connection_model.proofs.Invariant.{reached}
 use Rattle.connection_model.proofs.Valid.{both, slice-is}
-use Rattle.engine_model.specs.Texts.{noOutgoingChannel}
 use Rattle.engine_model.specs.Engine.{Phase, running, awaiting, stopped, Engine, fresh, Event, sendHeader, receiveHeader, sendOpen, incoming, closeOrder, allocate, deallocate, outgoing, tick, endOfInput, notDelivered, Landing, landing, Result, Trail, further, trail, framesIn, sending, Fault, illegal, unsupported, readFault, sendFault, undelivered, failed, fail, onward, readTo, isClose, phaseAnswered, answering, awaited, reads, inputEnds, settled, judge, landed, next, run}
 use Rattle.engine_model.specs.Engine as E
 use Rattle.engine_model.specs.Callers.{isValid, areValid, Valid}
@@ -176,7 +175,7 @@ undelivered-valid dialler new = refl
 
 -- ---- a read writes nothing
 
-silent-none : {S : Settings} {c : Connection} {v : Verdict M.Outcome} → Holds (ReadsSo S c) v → bytesIn v ≡ []
+silent-none : {S : Settings} {c : Connection} {close : Bool} {v : Verdict M.Outcome} → Holds (ReadsSo S c close) v → bytesIn v ≡ []
 silent-none refused = refl
 silent-none (holds r) = r .silent
 

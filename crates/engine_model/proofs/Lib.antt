@@ -3,6 +3,6 @@ pub mod Worked
 pub mod Laws
 pub mod Frames
 pub mod Calls
+pub mod Phases
 pub mod Ending
-pub mod Keeping
 pub mod Alike

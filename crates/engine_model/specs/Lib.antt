@@ -1,3 +1,4 @@
 pub mod Texts
 pub mod Engine
+pub mod Phases
 pub mod Callers

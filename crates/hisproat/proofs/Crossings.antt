@@ -6,7 +6,7 @@ use mathlib.Core.List.{List, [], _++_, append-nil}
 use mathlib.Core.Option.{Option, some}
 use Prim.Native.Nat.{ℕ, suc, _-_, _*_, _≤_, _<_}
 use native.Mathlib.Omega.{arith}
-use lib.Dec.{leb}
+use lib.Dec.{T, leb}
 use lib.ListN.{length, take, drop, length-drop, take-append-drop, length-take, drop-of-length-le}
 use lib.Seq.{drop-drop}
 use borrow.Author.Tests.{le-leb, lt-leb, not-true, not-false}
@@ -16,16 +16,19 @@ use Rattle.octets.proofs.Laws.{length-put}
 use Rattle.frame_encoder.specs.Frames.{Settings}
 use Rattle.frame_encoder.specs.Answers.{errorText}
 use Rattle.connection_model.specs.Connection.{Role, Answer}
+use Rattle.connection_model.proofs.Rules.{true-is}
 use Rattle.connection.specs.View as C
 use Rattle.engine_model.specs.Engine.{Engine, Event, closeOrder, notDelivered, Reply, seen, next, lent, hasRoom}
+use Rattle.engine_model.specs.Phases.{goesWith}
 use Rattle.engine_model.proofs.Laws.{clash}
+use Rattle.engine_model.proofs.Phases.{next-goes}
 use Rattle.endpoint.specs.Promises as E
 use Rattle.engine.specs.declared.ConnectionEngine.{ConnectionEngine}
 use Rattle.engine.specs.Answers.{Whole, whole, connectionIn, roleOf, settingsOf, viewOf, Sound}
 use Rattle.engine.specs.Promises.{Does, DoesIn}
 use Rattle.engine.proofs.Output.{rest-is}
-use Rattle.engine_bytes.specs.declared.EngineRead.{EngineRead}
-use Rattle.engine_bytes.specs.declared.EngineRead.the-variants.{Is, Broken}
+use Rattle.engine.specs.declared.ResumedEngine.{ResumedEngine}
+use Rattle.engine.specs.declared.ResumedEngine.the-variants.{Is, Broken}
 use Rattle.engine_bytes.specs.Bytes.{Fixed, at, idAt, tablesAt, fixedSize, fixedAt, stateSize, movingBytes, StandFor}
 use Rattle.engine_bytes.specs.Promises.{fixedIn, readSays}
 use Rattle.engine_bytes.proofs.Fixed.{id-low}
@@ -55,7 +58,7 @@ module _ (event : Event) (a : List ℕ) (all : hasRoom event ≡ true) where
 
 -- ---- a state that was read
 
-module _ (s : List ℕ) (read : EngineRead) (reads : readSays (idAt s) read ≡ fixedAt s) (e : ConnectionEngine) (known : read ≡ Is e) where
+module _ (s : List ℕ) (read : ResumedEngine) (reads : readSays (idAt s) read ≡ fixedAt s) (e : ConnectionEngine) (known : read ≡ Is e) where
   pub read-is : fixedAt s ≡ accept (fixedIn e (idAt s))
   read-is = sym reads ∙ ap (readSays (idAt s)) known
 
@@ -99,7 +102,7 @@ module _ (event : Event) (s a : List ℕ) (lacks : Bool) (is : lacks ≡ not (fi
   room = not-false (fitsIn event a) (sym is ∙ not-so)
 
   -- it stands for no engine
-  pub crosses-broken : (read : EngineRead) → readSays (idAt s) read ≡ fixedAt s → read ≡ Broken → Crosses event s a (crossing 8 s a (lent event))
+  pub crosses-broken : (read : ResumedEngine) → readSays (idAt s) read ≡ fixedAt s → read ≡ Broken → Crosses event s a (crossing 8 s a (lent event))
   crosses-broken read reads b =
       let broken : fixedAt s ≡ refuse 8 = sym reads ∙ ap (readSays (idAt s)) b in
       unchanged event s a 8 (λ t. clash (sym room ∙ t)) (λ t n. refl) (λ t role S e z. let q : _≡_ {A = ℕ} 0 1 = never (z .reads) broken in absurd (omega arith))
@@ -126,6 +129,12 @@ module _ (event : Event) (s a : List ℕ) (lacks : Bool) (is : lacks ≡ not (fi
     pub given-back : (k : ℕ) → reply ≡ refuse k → given ≡ s
     given-back k q = ap (λ w. take fixedSize s ++ w .tables) (does .refused k q .0) ∙ take-append-drop fixedSize s
 
+    -- the phase goes with the state, as it did
+    goes : (z : Sound before) → goesWith (viewOf after .phase) (viewOf after .connection .state) ≡ true
+    goes z =
+        ap (λ x. goesWith (x .phase) (x .connection .state)) (does .meets z .leaves)
+        ∙ true-is _ (next-goes (roleOf before) (settingsOf before) (viewOf before) (subst T (sym (said s e read .phase-goes)) tt) event)
+
     leads-as : (v : Verdict Reply) → reply ≡ v → (z : Sound before) → StandFor (stateAfter v given later) (roleOf before) (settingsOf before) (next (roleOf before) (settingsOf before) (viewOf before) event)
     leads-as (refuse k) q z =
         let m = does .meets z in
@@ -135,7 +144,7 @@ module _ (event : Event) (s a : List ℕ) (lacks : Bool) (is : lacks ≡ not (fi
         (record { fixed = fixedIn e (idAt s); reads = read; role-is = refl; settings-is = refl; engine-is = refl; reached = z .reached }))
     leads-as (accept r) q z =
         let m = does .meets z in
-        subst (λ x. StandFor (put given 16 (movingBytes (fixedIn later []))) (roleOf before) (settingsOf before) x) (m .leaves) (laid-stands s e read later t same (m .sound))
+        subst (λ x. StandFor (put given 16 (movingBytes (fixedIn later []))) (roleOf before) (settingsOf before) x) (m .leaves) (laid-stands s e read later t same (m .sound) (goes z))
 
     long-given : length given ≡ length s
     long-given = with-long s t (said s e read .long) (same .same-long)
@@ -197,7 +206,7 @@ module _ (event : Event) (s a : List ℕ) (lacks : Bool) (is : lacks ≡ not (fi
         (f .finishes-state v ∙ ap (λ r. stateAfter r given later) (m .amounts-reply))
 
   -- with the facts as they come
-  module _ (read : EngineRead) (reads : readSays (idAt s) read ≡ fixedAt s) (e : ConnectionEngine) (known : read ≡ Is e) where
+  module _ (read : ResumedEngine) (reads : readSays (idAt s) read ≡ fixedAt s) (e : ConnectionEngine) (known : read ≡ Is e) where
     -- an event that is not lent the tables
     pub crosses-without :
         (reply : Verdict Reply) (out : List ℕ) (later : ConnectionEngine) → Does event (whole e (tablesAt s) (idAt s)) reply out (whole later (tablesAt s) (idAt s))

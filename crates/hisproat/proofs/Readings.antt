@@ -41,8 +41,8 @@ use Rattle.engine.specs.declared.ConnectionEngine.{ConnectionEngine}
 use Rattle.engine.specs.declared.Phase.{Phase}
 use Rattle.engine.specs.Answers.{Whole, whole, connectionIn, phaseSays, roleOf, settingsOf, viewOf, Sound}
 use Rattle.engine.proofs.Output.{rest-is}
-use Rattle.engine_bytes.specs.declared.EngineRead.{EngineRead}
-use Rattle.engine_bytes.specs.declared.EngineRead.the-variants.{Is, Broken}
+use Rattle.engine.specs.declared.ResumedEngine.{ResumedEngine}
+use Rattle.engine.specs.declared.ResumedEngine.the-variants.{Is, Broken}
 use Rattle.engine_bytes.specs.Bytes.{Fixed, roleNumber, phaseBytes, idAt, tablesAt, fixedAt}
 use Rattle.engine_bytes.specs.Promises.{readSays}
 use Rattle.engine_bytes.proofs.Standing.{stand-only}
@@ -102,7 +102,7 @@ reports-short n bytes s a h = record {
   refused = λ r. refl;
 }
 
-module _ (n : ℕ) (bytes : Role → Settings → Engine → List ℕ) (s a : List ℕ) (room : n ≤ length a) (read : EngineRead) (reads : readSays (idAt s) read ≡ fixedAt s) where
+module _ (n : ℕ) (bytes : Role → Settings → Engine → List ℕ) (s a : List ℕ) (room : n ≤ length a) (read : ResumedEngine) (reads : readSays (idAt s) read ≡ fixedAt s) where
   never : {f : Fixed} → fixedAt s ≡ accept f → fixedAt s ≡ refuse 8 → _≡_ {A = ℕ} 0 1
   never p q = cc
 
@@ -141,16 +141,7 @@ module _ (n : ℕ) (bytes : Role → Settings → Engine → List ℕ) (s a : Li
 
 -- ---- handles
 
--- a result: what is told of a handle has the size that its answer must have
-pub length-taken : (ch : ℕ) (role : Role) (S : Settings) (e : Engine) → length (takenBytes ch role S e) ≡ 5
-unfolding takenBytes
-length-taken ch role S e = length-may 4 (e .connection .taken ch)
-
-pub length-tied : (ch : ℕ) (role : Role) (S : Settings) (e : Engine) → length (tiedBytes ch role S e) ≡ 5
-unfolding tiedBytes
-length-tied ch role S e = length-may 4 (e .connection .ties ch)
-
-module _ (ch : ℕ) (s a : List ℕ) (room : 5 ≤ length a) (read : EngineRead) (reads : readSays (idAt s) read ≡ fixedAt s) (e : ConnectionEngine) (known : read ≡ Is e) (c : Connection) (same : c ≡ e .connection)
+module _ (ch : ℕ) (s a : List ℕ) (room : 5 ≤ length a) (read : ResumedEngine) (reads : readSays (idAt s) read ≡ fixedAt s) (e : ConnectionEngine) (known : read ≡ Is e) (c : Connection) (same : c ≡ e .connection)
     (v : Verdict (Option ℕ)) (k : ℕ) (a′ : List ℕ) (p : PutsHandle v a k a′) where
   pub taken-told : ((id : List ℕ) → Looks (View.whole c (lentTables s) id) (View.viewOf (View.whole c (lentTables s) id) .taken ch) v) → Reports 5 (takenBytes ch) s a (told k a′)
   unfolding takenBytes
@@ -238,6 +229,6 @@ status-laid e a h c same x x-is role role-is k k-is o e1 ph ph-is p e2 j j-is q 
 }
 
 pub status-told :
-    (s a : List ℕ) → 19 ≤ length a → (read : EngineRead) → readSays (idAt s) read ≡ fixedAt s → (e : ConnectionEngine) → read ≡ Is e → (a′ : List ℕ)
+    (s a : List ℕ) → 19 ≤ length a → (read : ResumedEngine) → readSays (idAt s) read ≡ fixedAt s → (e : ConnectionEngine) → read ≡ Is e → (a′ : List ℕ)
     → ((t id : List ℕ) → PutsStatus (whole e t id) a a′) → Reports 19 statusBytes s a (told 0 a′)
 status-told s a room read reads e known a′ p = reports 19 statusBytes s a room read reads e known 0 a′ (λ z. (refl, p (tablesAt s) (idAt s) .puts z)) (λ n. absurd (n refl))

@@ -21,6 +21,7 @@ use Rattle.local_open.specs.Settings.{allowed}
 use Rattle.connection_model.specs.Connection.{Role}
 use Rattle.connection_model.specs.Sound.{Reached}
 use Rattle.engine_model.specs.Engine.{Engine, fresh}
+use Rattle.engine_model.specs.Phases.{goesWith}
 use Rattle.engine_model.proofs.Laws.{clash}
 use Rattle.connection.specs.Promises as C
 use Rattle.connection.specs.View as View
@@ -169,10 +170,11 @@ module _ (role : Role) (S : Settings) (s : List ℕ) (long : 300 ≤ length s) (
 
     stands : StandFor s′ role S fresh
     stands =
+        let v : viewOf (whole e t id) ≡ fresh = (λ i. record { phase = phaseSays (m .runs e is i); connection = begun .begun-fresh i }) in
         let p : fixedAt s′ ≡ accept f =
         ap fixedAt laid ∙ says-fixed _ f (says-new f roomy settings-roomy given given-room (z .fine) (z .held .numbers .within)
-        (reached-limits (settingsOf (whole e t id)) (viewOf (whole e t id) .connection) (z .reached)) covered) in
-        let v : viewOf (whole e t id) ≡ fresh = (λ i. record { phase = phaseSays (m .runs e is i); connection = begun .begun-fresh i }) in
+        (reached-limits (settingsOf (whole e t id)) (viewOf (whole e t id) .connection) (z .reached)) covered
+        (ap (λ x. goesWith (x .phase) (x .connection .state)) v)) in
         record {
           fixed = f;
           reads = p;

@@ -6,7 +6,7 @@ mod status;
 use answers::finish;
 use engine::ConnectionEngine;
 use engine::NewEngine;
-use engine_bytes::EngineRead;
+use engine::ResumedEngine;
 use engine_bytes::FIXED_SIZE;
 use engine_bytes::ID;
 use frame_encoder::IdleTimeOut;
@@ -150,7 +150,7 @@ pub extern "C" fn hisproat_send_header(state: &mut [u8], output: &mut [u8], answ
     if lacks_room(answer.len(), output.len(), 0) {
         return NO_ROOM;
     }
-    let EngineRead::Is(engine) = engine_bytes::from_bytes(state) else {
+    let ResumedEngine::Is(engine) = engine_bytes::from_bytes(state) else {
         return BROKEN;
     };
     let header = engine.send_header(output);
@@ -167,7 +167,7 @@ pub extern "C" fn hisproat_receive_header(state: &mut [u8], input: &[u8], answer
     if answer.len() < ANSWER_SIZE {
         return NO_ROOM;
     }
-    let EngineRead::Is(engine) = engine_bytes::from_bytes(state) else {
+    let ResumedEngine::Is(engine) = engine_bytes::from_bytes(state) else {
         return BROKEN;
     };
     let came = engine.receive_header(input);
@@ -184,7 +184,7 @@ pub extern "C" fn hisproat_send_open(state: &mut [u8], output: &mut [u8], answer
     if lacks_room(answer.len(), output.len(), 0) {
         return NO_ROOM;
     }
-    let EngineRead::Is(engine) = engine_bytes::from_bytes(state) else {
+    let ResumedEngine::Is(engine) = engine_bytes::from_bytes(state) else {
         return BROKEN;
     };
     let opening = engine.send_open(container_id(state), output);
@@ -208,7 +208,7 @@ pub extern "C" fn hisproat_on_incoming(
     if lacks_room(answer.len(), output.len(), waiting.len()) {
         return NO_ROOM;
     }
-    let EngineRead::Is(engine) = engine_bytes::from_bytes(state) else {
+    let ResumedEngine::Is(engine) = engine_bytes::from_bytes(state) else {
         return BROKEN;
     };
     let taken = engine.on_incoming(&mut state[FIXED_SIZE..], frame, spare, waiting, output);
@@ -232,7 +232,7 @@ pub extern "C" fn hisproat_on_close(
     if lacks_room(answer.len(), output.len(), waiting.len()) {
         return NO_ROOM;
     }
-    let EngineRead::Is(engine) = engine_bytes::from_bytes(state) else {
+    let ResumedEngine::Is(engine) = engine_bytes::from_bytes(state) else {
         return BROKEN;
     };
     let closing = engine.on_close(&mut state[FIXED_SIZE..], waiting, output);
@@ -259,7 +259,7 @@ pub extern "C" fn hisproat_on_close_with_error(
     if lacks_room(answer.len(), output.len(), waiting.len()) {
         return NO_ROOM;
     }
-    let EngineRead::Is(engine) = engine_bytes::from_bytes(state) else {
+    let ResumedEngine::Is(engine) = engine_bytes::from_bytes(state) else {
         return BROKEN;
     };
     let order = engine.on_close_with_error(
@@ -285,7 +285,7 @@ pub extern "C" fn hisproat_on_allocate(state: &mut [u8], handle: u32, answer: &m
     if answer.len() < ANSWER_SIZE {
         return NO_ROOM;
     }
-    let EngineRead::Is(engine) = engine_bytes::from_bytes(state) else {
+    let ResumedEngine::Is(engine) = engine_bytes::from_bytes(state) else {
         return BROKEN;
     };
     let given = engine.on_allocate(&mut state[FIXED_SIZE..], handle);
@@ -303,7 +303,7 @@ pub extern "C" fn hisproat_on_deallocate(state: &mut [u8], channel: u16, answer:
     if answer.len() < ANSWER_SIZE {
         return NO_ROOM;
     }
-    let EngineRead::Is(engine) = engine_bytes::from_bytes(state) else {
+    let ResumedEngine::Is(engine) = engine_bytes::from_bytes(state) else {
         return BROKEN;
     };
     let freed = engine.on_deallocate(&mut state[FIXED_SIZE..], channel);
@@ -331,7 +331,7 @@ pub extern "C" fn hisproat_on_outgoing(
     if lacks_room(answer.len(), output.len(), 0) {
         return NO_ROOM;
     }
-    let EngineRead::Is(engine) = engine_bytes::from_bytes(state) else {
+    let ResumedEngine::Is(engine) = engine_bytes::from_bytes(state) else {
         return BROKEN;
     };
     let sent = engine.on_outgoing_session_frame(&mut state[FIXED_SIZE..], frame, output);
@@ -350,7 +350,7 @@ pub extern "C" fn hisproat_on_tick(state: &mut [u8], output: &mut [u8], answer: 
     if lacks_room(answer.len(), output.len(), 0) {
         return NO_ROOM;
     }
-    let EngineRead::Is(engine) = engine_bytes::from_bytes(state) else {
+    let ResumedEngine::Is(engine) = engine_bytes::from_bytes(state) else {
         return BROKEN;
     };
     let beat = engine.on_heartbeat(output);
@@ -372,7 +372,7 @@ pub extern "C" fn hisproat_on_end_of_input(
     if lacks_room(answer.len(), output.len(), 0) {
         return NO_ROOM;
     }
-    let EngineRead::Is(engine) = engine_bytes::from_bytes(state) else {
+    let ResumedEngine::Is(engine) = engine_bytes::from_bytes(state) else {
         return BROKEN;
     };
     let ended = engine.on_end_of_input(output);
@@ -395,7 +395,7 @@ pub extern "C" fn hisproat_on_not_delivered(
     if lacks_room(answer.len(), output.len(), 0) {
         return NO_ROOM;
     }
-    let EngineRead::Is(engine) = engine_bytes::from_bytes(state) else {
+    let ResumedEngine::Is(engine) = engine_bytes::from_bytes(state) else {
         return BROKEN;
     };
     let told = engine.on_not_delivered(is_set(new_session), output);

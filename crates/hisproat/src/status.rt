@@ -6,7 +6,7 @@ use crate::STATUS_SIZE;
 use channels::AgreedMax;
 use connection::HandleAnswer;
 use engine::ConnectionEngine;
-use engine_bytes::EngineRead;
+use engine::ResumedEngine;
 use engine_bytes::FIXED_SIZE;
 use engine_bytes::numbers::put_phase;
 use engine_bytes::numbers::role_number;
@@ -77,7 +77,7 @@ pub extern "C" fn hisproat_status(state: &[u8], answer: &mut [u8]) -> u8
     if answer.len() < STATUS_SIZE {
         return NO_ROOM;
     }
-    let EngineRead::Is(engine) = engine_bytes::from_bytes(state) else {
+    let ResumedEngine::Is(engine) = engine_bytes::from_bytes(state) else {
         return BROKEN;
     };
     put_status(engine, answer);
@@ -92,7 +92,7 @@ pub extern "C" fn hisproat_handle_at(state: &[u8], channel: u16, answer: &mut [u
     if answer.len() < HANDLE_SIZE {
         return NO_ROOM;
     }
-    let EngineRead::Is(engine) = engine_bytes::from_bytes(state) else {
+    let ResumedEngine::Is(engine) = engine_bytes::from_bytes(state) else {
         return BROKEN;
     };
     let connection = engine.connection();
@@ -107,7 +107,7 @@ pub extern "C" fn hisproat_tied_handle(state: &[u8], channel: u16, answer: &mut 
     if answer.len() < HANDLE_SIZE {
         return NO_ROOM;
     }
-    let EngineRead::Is(engine) = engine_bytes::from_bytes(state) else {
+    let ResumedEngine::Is(engine) = engine_bytes::from_bytes(state) else {
         return BROKEN;
     };
     let connection = engine.connection();

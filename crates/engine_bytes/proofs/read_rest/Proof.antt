@@ -75,7 +75,7 @@ returns-5 c =
     let n = f .before .before in
     let o = n .before .before in
     let a = o .before .before .before .before .args in
-    rest-kept _ (a .role) _ (a .state) _ (o .before .before .read-open .ensures) _ (o .«open» .given .1) (n .read-counts .result) (n .read-counts .ensures) (f .if1 .left) _ (h .channel-max .ensures) _ (v .covers .ensures) (u .if2 .left) _ _ (d .four-at .ensures) (w .four-at2 .ensures) _ (r .resumed .ensures) _ (k .resumed2 .given .1) _ (c .resumed3 .ensures)
+    rest-kept _ (a .role) (a .phase) (a .state) _ (o .before .before .read-open .ensures) _ (o .«open» .given .1) (n .read-counts .result) (n .read-counts .ensures) (f .if1 .left) _ (h .channel-max .ensures) _ (v .covers .ensures) (u .if2 .left) _ _ (d .four-at .ensures) (w .four-at2 .ensures) _ (r .resumed .ensures) _ (k .resumed2 .given .1) _ (c .resumed3 .ensures)
 
 pub read-rest-spec : {M : Type 1} → statement M
 read-rest-spec =

@@ -3,7 +3,8 @@
 use borrow.Author.Needs.{needs}
 use Rattle.connection_state.specs.States.{isOneOf}
 use Rattle.connection_state.proofs.Laws.{there, fails}
-use Rattle.engine.specs.Promises.{endable}
+use Rattle.engine_model.specs.Engine.{fine}
+use Rattle.engine_model.specs.Phases.{stopsIn}
 use Rattle.engine.proofs.ending.may_end.Statement.{statement}
 use Rattle.engine.proofs.ending.may_end.Tie as tie
 
@@ -17,16 +18,16 @@ enum-told-3 : tie.Need-enum-told-3
 enum-told-3 c = search needs
 
 returns : tie.Need-returns
-returns c = search (there (isOneOf endable), needs)
+returns c = search (there (isOneOf (stopsIn fine)), needs)
 
 returns-2 : tie.Need-returns-2
-returns-2 c = search (there (isOneOf endable), needs)
+returns-2 c = search (there (isOneOf (stopsIn fine)), needs)
 
 returns-3 : tie.Need-returns-3
-returns-3 c = search (there (isOneOf endable), needs)
+returns-3 c = search (there (isOneOf (stopsIn fine)), needs)
 
 returns-4 : tie.Need-returns-4
-returns-4 c = search (fails (isOneOf endable), needs)
+returns-4 c = search (fails (isOneOf (stopsIn fine)), needs)
 
 pub may-end-spec : {M : Type 1} → statement M
 may-end-spec =
