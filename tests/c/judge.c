@@ -120,15 +120,15 @@ static int fits_state(const uint8_t *s)
     return state <= HISPROAT_STATE_END && s[AT_AGREED] <= 1 && (after_either || s[AT_AGREED] == after_open);
 }
 
-/* Both limits are 512 until the peer's Open, which sets them, and there are no channels. */
+/* Both limits are 512 until the peer's Open, which sets them, and there are no channels. The channel that was freed last was handed out before; where none is free that was, the number is 0. */
 static int has_limits(const uint8_t *s)
 {
     uint32_t reading = fixed_number(s, AT_READING_LIMIT), writing = fixed_number(s, AT_WRITING_LIMIT), most = fixed_number(s, AT_AGREED_MAX);
     uint32_t used = fixed_number(s, AT_USED), head = fixed_number(s, AT_HEAD), freed = fixed_number(s, AT_FREED);
     if (!s[AT_AGREED])
         return reading == 512 && writing == 512 && most == 0 && used == 0 && head == 0 && freed == 0;
-    return reading == fixed_number(s, AT_MAX_FRAME_SIZE) && writing >= 512 && writing <= 16384 && most <= fixed_number(s, AT_CHANNEL_MAX) && head <= most
-        && freed <= used && used <= most + 1;
+    return reading == fixed_number(s, AT_MAX_FRAME_SIZE) && writing >= 512 && writing <= 16384 && most <= fixed_number(s, AT_CHANNEL_MAX)
+        && freed <= used && used <= most + 1 && (freed == 0 ? head == 0 : head < used);
 }
 
 int stands(const uint8_t *s, size_t len)

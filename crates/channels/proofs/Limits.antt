@@ -1,12 +1,12 @@
 -- Counts within their limits, and the test of it.
 -- Assumes nothing.
-use mathlib.Core.Path.{_≡_, refl, sym, _∙_}
-use mathlib.Core.Bool.{Bool, true, false, _&&_}
+use mathlib.Core.Path.{_≡_, refl, sym, _∙_, ap}
+use mathlib.Core.Bool.{Bool, true, false, cond, _&&_}
 use Prim.Native.Nat.{ℕ, suc, _+_, _≤_, _<_}
 use native.Mathlib.Omega.{arith}
-use native.Mathlib.Numerals.{add-one}
-use lib.Dec.{leb, eqb}
-use borrow.Author.Tests.{leb-true, eqb-true, le-leb, lt-leb, eq-eqb, ne-eqb}
+use native.Mathlib.Decide.{decLe}
+use lib.Dec.{leb, ltb, eqb}
+use borrow.Author.Tests.{leb-true, ltb-true, eqb-true, le-leb, lt-leb, lt-ltb, eq-eqb, ne-eqb}
 use Rattle.channels.specs.declared.OutgoingChannels.{OutgoingChannels}
 use Rattle.channels.specs.Channels.{countsOk}
 
@@ -24,9 +24,10 @@ neither false b e = refl
 -- ---- what the test says
 
 pub record Opened (t : OutgoingChannels) : Type 0 where
-  pub low-head : t .head ≤ t .highest
   pub low-freed : t .freed ≤ t .used
   pub low-used : t .used ≤ suc (t .highest)
+  pub none-freed : t .freed ≡ 0 → t .head ≡ 0
+  pub used-head : (t .freed ≡ 0 → ⊥) → t .head < t .used
 
 pub record Closed (t : OutgoingChannels) : Type 0 where
   pub no-highest : t .highest ≡ 0
@@ -35,8 +36,12 @@ pub record Closed (t : OutgoingChannels) : Type 0 where
   pub no-freed : t .freed ≡ 0
 
 module _ (t : OutgoingChannels) where
+  -- the head, by whether any number is freed
+  abbrev headed : Bool → Bool
+  headed none = cond none (eqb (t .head) 0) (ltb (t .head) (t .used))
+
   abbrev limits : Bool
-  limits = leb (t .head) (t .highest) && (leb (t .freed) (t .used) && leb (t .used) (suc (t .highest)))
+  limits = leb (t .freed) (t .used) && (leb (t .used) (suc (t .highest)) && headed (eqb (t .freed) 0))
 
   abbrev zeros : Bool
   zeros = eqb (t .highest) 0 && (eqb (t .used) 0 && (eqb (t .head) 0 && eqb (t .freed) 0))
@@ -51,13 +56,20 @@ module _ (t : OutgoingChannels) where
 
   pub opened-limits : t .opened ≡ true → countsOk t ≡ true → Opened t
   opened-limits o e =
-      let a = both (leb (t .head) (t .highest)) (leb (t .freed) (t .used) && leb (t .used) (suc (t .highest))) (sym (when-opened o) ∙ e) in
-      let b = both (leb (t .freed) (t .used)) (leb (t .used) (suc (t .highest))) (a .1) in
+      let a = both (leb (t .freed) (t .used)) (leb (t .used) (suc (t .highest)) && headed (eqb (t .freed) 0)) (sym (when-opened o) ∙ e) in
+      let b = both (leb (t .used) (suc (t .highest))) (headed (eqb (t .freed) 0)) (a .1) in
       record {
-        low-head = leb-true (t .head) (t .highest) (a .0);
-        low-freed = leb-true (t .freed) (t .used) (b .0);
-        low-used = leb-true (t .used) (suc (t .highest)) (b .1);
+        low-freed = leb-true (t .freed) (t .used) (a .0);
+        low-used = leb-true (t .used) (suc (t .highest)) (b .0);
+        none-freed = λ z. eqb-true (t .head) 0 (sym (ap headed (eq-eqb (t .freed) 0 z)) ∙ b .1);
+        used-head = λ n. ltb-true (t .head) (t .used) (sym (ap headed (ne-eqb (t .freed) 0 n)) ∙ b .1);
       }
+
+  pub opened-head : Opened t → t .head ≤ t .highest
+  opened-head i = elim (decLe (t .freed) 0) [
+    | yes l ↦ omega (arith, i .none-freed (omega arith))
+    | no l ↦ omega (arith, i .used-head (λ z. omega arith), i .low-used)
+  ]
 
   pub closed-limits : t .opened ≡ false → countsOk t ≡ true → Closed t
   closed-limits o e =
@@ -72,7 +84,13 @@ module _ (t : OutgoingChannels) where
       }
 
   pub opened-within : t .opened ≡ true → Opened t → countsOk t ≡ true
-  opened-within o i = when-opened o ∙ rw (le-leb (t .head) (t .highest) (i .low-head), le-leb (t .freed) (t .used) (i .low-freed), le-leb (t .used) (suc (t .highest)) (i .low-used))
+  opened-within o i = when-opened o ∙ rw (le-leb (t .freed) (t .used) (i .low-freed), le-leb (t .used) (suc (t .highest)) (i .low-used)) head-fine
+    where
+      head-fine : headed (eqb (t .freed) 0) ≡ true
+      head-fine = elim (decLe (t .freed) 0) [
+        | yes l ↦ ap headed (eq-eqb (t .freed) 0 (omega arith)) ∙ eq-eqb (t .head) 0 (i .none-freed (omega arith))
+        | no l ↦ ap headed (ne-eqb (t .freed) 0 (λ z. omega arith)) ∙ lt-ltb (t .head) (t .used) (i .used-head (λ z. omega arith))
+      ]
 
   pub used-low : countsOk t ≡ true → t .used ≤ suc (t .highest)
   used-low e = go (t .opened) refl
@@ -85,14 +103,22 @@ module _ (t : OutgoingChannels) where
 
 module _ (t : OutgoingChannels) (most : ℕ) (e : most ≡ t .highest) where
   module _ (o : t .opened ≡ true) where
-    pub head-over : most < t .head → false ≡ countsOk t
-    head-over l = sym (when-opened t o ∙ rw (lt-leb (t .head) (t .highest) (omega arith)))
+    pub freed-over : t .used < t .freed → false ≡ countsOk t
+    freed-over l = sym (when-opened t o ∙ rw (lt-leb (t .freed) (t .used) l))
 
-    pub freed-over : t .head ≤ most → t .used < t .freed → false ≡ countsOk t
-    freed-over m l = sym (when-opened t o ∙ rw (le-leb (t .head) (t .highest) (omega arith), lt-leb (t .freed) (t .used) l))
+    module _ (l : t .freed ≤ t .used) where
+      pub used-beyond : most + 1 < t .used → false ≡ countsOk t
+      used-beyond m = sym (when-opened t o ∙ rw (le-leb (t .freed) (t .used) l, lt-leb (t .used) (suc (t .highest)) (omega arith)))
 
-    pub used-tested : t .head ≤ most → t .freed ≤ t .used → leb (t .used) (most + 1) ≡ countsOk t
-    used-tested m l = rw (e, add-one (t .highest)) (sym (when-opened t o ∙ rw (le-leb (t .head) (t .highest) (omega arith), le-leb (t .freed) (t .used) l)))
+      module _ (m : t .used ≤ most + 1) where
+        head-by : (none : Bool) → eqb (t .freed) 0 ≡ none → headed t none ≡ countsOk t
+        head-by none q = sym (when-opened t o ∙ rw (le-leb (t .freed) (t .used) l, le-leb (t .used) (suc (t .highest)) (omega arith)) (ap (headed t) q))
+
+        pub head-none : t .freed ≡ 0 → eqb (t .head) 0 ≡ countsOk t
+        head-none z = head-by true (eq-eqb (t .freed) 0 z)
+
+        pub head-used : (t .freed ≡ 0 → ⊥) → ltb (t .head) (t .used) ≡ countsOk t
+        head-used n = head-by false (ne-eqb (t .freed) 0 n)
 
   module _ (o : t .opened ≡ false) where
     pub highest-over : 0 < most → false ≡ countsOk t

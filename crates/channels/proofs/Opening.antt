@@ -95,7 +95,7 @@ module _ (self : OutgoingChannels) (highest : ℕ) where
       all = omega arith
 
       fine : countsOk (counts true highest 0 0 0) ≡ true
-      fine = opened-within (counts true highest 0 0 0) refl (record { low-head = omega arith; low-freed = omega arith; low-used = omega arith })
+      fine = opened-within (counts true highest 0 0 0) refl (record { low-freed = omega arith; low-used = omega arith; none-freed = λ q. refl; used-head = λ q. absurd (q refl) })
 
   pub opens : Opens self highest (openedTo highest self)
   opens = by (self .opened) refl

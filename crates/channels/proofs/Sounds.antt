@@ -16,7 +16,7 @@ use Rattle.channels.specs.declared.OutgoingChannels.{OutgoingChannels}
 use Rattle.channels.specs.Channels.{chain, free, agreedSays, handOutSays, takenSays, Sound}
 use Rattle.channels.proofs.Numbers.{one-small, once-taken, within-once}
 use Rattle.channels.proofs.Counting.{none-below, free-and-taken}
-use Rattle.channels.proofs.Limits.{apart, closed-limits, used-low}
+use Rattle.channels.proofs.Limits.{apart, opened-limits, closed-limits, used-low}
 use Rattle.channels.proofs.Chains.{chain-length, chain-none, chain-pop, count-append, count-first, length-up}
 
 -- the first of the freed numbers, and the one after it
@@ -142,18 +142,24 @@ module _ (self : OutgoingChannels) (s : List ℕ) where
       head-alone = omega (arith, head-counted)
 
       pub head-used : self .head < self .used
-      head-used = elim (decLe (self .used) (self .head)) [
+      head-used = opened-limits self o (i .within) .used-head n
+
+      -- a number that is listed was handed out before
+      listed-used : (k : ℕ) → 0 < count k (self .head ∷ rest) → k < self .used
+      listed-used k c = elim (decLe (self .used) k) [
         | yes l ↦
-            let e : count (self .head) new ≡ 1 = within-once (self .head) (self .used) (suc (self .highest) - self .used) l (omega (arith, head-low, used-low self (i .within))) in
-            absurd (omega (arith, head-counted))
+            let e : count k new ≡ 1 = within-once k (self .used) (suc (self .highest) - self .used) l (omega (arith, listed-low k c, used-low self (i .within))) in
+            absurd (omega (arith, counted k, one-small (leb k (self .highest))))
         | no l ↦ omega arith
       ]
 
-      pub after-low : afterHead self s ≤ self .highest
-      after-low = elim (decLe (self .freed) 1) [
-        | yes l ↦ let e : afterHead self s ≡ 0 = rw (le-leb (self .freed) 1 l) in omega arith
+      pub after-used : afterHead self s < self .used
+      after-used = elim (decLe (self .freed) 1) [
+        | yes l ↦
+            let e : afterHead self s ≡ 0 = rw (le-leb (self .freed) 1 l) in
+            omega (arith, opened-limits self o (i .within) .low-freed)
         | no l ↦
             let k = afterHead self s in
             let e : count k rest ≡ count k (k ∷ chain s (field s k 0) (self .freed - 1 - 1)) = ap (count k) (chain-pop s k (self .freed - 1) (λ z. omega arith)) in
-            listed-low k (omega (arith, count-first k (chain s (field s k 0) (self .freed - 1 - 1))))
+            listed-used k (omega (arith, count-first k (chain s (field s k 0) (self .freed - 1 - 1))))
       ]

@@ -1,7 +1,7 @@
 -- What each return of the functions on outgoing channel numbers shows, with the facts as they come.
 -- Assumes nothing.
 use mathlib.Core.Path.{_≡_, refl, sym, _∙_, ap, fun-ext}
-use mathlib.Core.Bool.{Bool, true, false}
+use mathlib.Core.Bool.{Bool, true, false, cond}
 use mathlib.Core.List.{List, [], _∷_, _++_}
 use mathlib.Core.Option.{Option, none, some}
 use Prim.Native.Nat.{ℕ, suc, _+_, _-_, _≤_, _<_}
@@ -26,7 +26,7 @@ use Rattle.channels.proofs.Fields.{hasPlace, has-true, has-false, field
 pub use Rattle.channels.proofs.Limits.{apart}
 use Rattle.channels.proofs.Limits.{opened-limits, closed-limits, opened-within, used-low}
 use Rattle.channels.proofs.Chains.{takenBy, freedBefore, taken-long, taken-apart, taken-ties, taken-link, taken-handle, freed-long, freed-ties, chain-none, chain-pop, chain-same, count-append, up-pop}
-use Rattle.channels.proofs.Sounds.{nextFree, afterHead, says-taken, says-free, says-past, says-same, list-of, once, taken-low, all-numbers, follows, head-low, head-alone, head-used, after-low}
+use Rattle.channels.proofs.Sounds.{nextFree, afterHead, says-taken, says-free, says-past, says-same, list-of, once, taken-low, all-numbers, follows, head-low, head-alone, head-used, after-used}
 
 -- ---- agreed_max
 
@@ -152,7 +152,7 @@ module _ (self : OutgoingChannels) (s : List ℕ) (handle : ℕ) where
             within : countsOk self ≡ true → countsOk t′ ≡ true
             within i =
                 let d = opened-limits self o i in
-                opened-within t′ o (record { low-head = d .low-head; low-freed = omega (arith, d .low-freed); low-used = omega arith })
+                opened-within t′ o (record { low-freed = omega (arith, d .low-freed); low-used = omega arith; none-freed = d .none-freed; used-head = λ n. absurd (n z) })
 
             leads : handOutSays self s ≡ some (self .used ∷ rest)
             leads = new-list ∙ ap some (up-pop (self .used) (suc (self .highest) - self .used) (λ n. omega arith))
@@ -186,12 +186,12 @@ module _ (self : OutgoingChannels) (s : List ℕ) (handle : ℕ) where
       pub freed-short : b ≡ false → (r : Allocation) → r ≡ record { answer = Full; channels = self } → Allocates self s handle r s
       freed-short f r q = no-channel r q (λ i. absurd (has-false s (self .head) b p f (omega (arith, i .covered))))
 
-      module _ (f : b ≡ true) (next : ℕ) (d : next ≡ afterHead self s) (v : ℕ) (g : v ≡ self .highest) where
-        pub freed-astray : v < next → (r : Allocation) → r ≡ record { answer = Full; channels = self } → Allocates self s handle r s
-        freed-astray m r q = no-channel r q (λ i. absurd (omega (arith, after-low self s i o n)))
+      module _ (f : b ≡ true) (next : ℕ) (d : next ≡ afterHead self s) where
+        pub freed-astray : self .used ≤ next → (r : Allocation) → r ≡ record { answer = Full; channels = self } → Allocates self s handle r s
+        freed-astray m r q = no-channel r q (λ i. absurd (omega (arith, after-used self s i o n)))
 
         pub freed-taken :
-            next ≤ v → (s″ : List ℕ) → s″ ≡ takenBy s (self .head) handle
+            next < self .used → (s″ : List ℕ) → s″ ≡ takenBy s (self .head) handle
             → Allocates self s handle (record { answer = Channel (self .head); channels = counts (self .opened) (self .highest) (self .used) next (self .freed - 1) }) s″
         freed-taken m s″ x = rw x (hands-out k rest t′ (omega arith) refl refl within leads list map)
           where
@@ -215,8 +215,13 @@ module _ (self : OutgoingChannels) (s : List ℕ) (handle : ℕ) where
 
             within : countsOk self ≡ true → countsOk t′ ≡ true
             within i =
-                let d = opened-limits self o i in
-                opened-within t′ o (record { low-head = omega arith; low-freed = omega (arith, d .low-freed); low-used = d .low-used })
+                let a = opened-limits self o i in
+                opened-within t′ o (record {
+                  low-freed = omega (arith, a .low-freed);
+                  low-used = a .low-used;
+                  none-freed = λ q. d ∙ ap (λ u. cond u 0 (field s (self .head) 0)) (le-leb (self .freed) 1 (omega arith));
+                  used-head = λ q. m;
+                })
 
             leads : Sound self s → handOutSays self s ≡ some (k ∷ rest)
             leads i = list-of self s o ∙ ap (λ l. some (l ++ new)) (follows self s i o n)
@@ -365,7 +370,7 @@ module _ (self : OutgoingChannels) (s : List ℕ) (channel : ℕ) where
           within : countsOk self ≡ true → countsOk t′ ≡ true
           within i =
               let d = opened-limits self (opened i) i in
-              opened-within t′ (opened i) (record { low-head = omega (arith, was-used, d .low-used); low-freed = omega arith; low-used = d .low-used })
+              opened-within t′ (opened i) (record { low-freed = omega arith; low-used = d .low-used; none-freed = λ q. absurd (omega arith); used-head = λ q. was-used })
 
           link : field s′ channel 0 ≡ nextFree self
           link = field-same s channel 0 (nextFree self) c (omega arith)

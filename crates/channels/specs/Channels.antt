@@ -47,10 +47,10 @@ nextOf (some (ch ∷ rest)) = accept ch
 abbrev pub counts : Bool → ℕ → ℕ → ℕ → ℕ → OutgoingChannels
 counts opened highest used head freed = record { opened = opened; highest = highest; used = used; head = head; freed = freed }
 
--- counts within their limits: before the peer's Open all are 0
+-- counts within their limits: the number freed last was handed out before, and is 0 where none is free that was; before the peer's Open all are 0
 unfoldable pub countsOk : OutgoingChannels → Bool
 countsOk t =
-    cond (t .opened) (leb (t .head) (t .highest) && (leb (t .freed) (t .used) && leb (t .used) (suc (t .highest))))
+    cond (t .opened) (leb (t .freed) (t .used) && (leb (t .used) (suc (t .highest)) && cond (eqb (t .freed) 0) (eqb (t .head) 0) (ltb (t .head) (t .used))))
     (eqb (t .highest) 0 && (eqb (t .used) 0 && (eqb (t .head) 0 && eqb (t .freed) 0)))
 
 -- n numbers from k on, by the links

@@ -117,19 +117,22 @@ impl OutgoingChannels {
         }
     }
 
-    // Whether the counts are within their limits: before the peer's Open all are 0.
+    // Whether the counts are within their limits: the head was handed out before, or is 0; and before the peer's Open all are 0.
     fn is_within(self) -> bool
         ensures { λ r. ⌜ r ≡ countsOk self ⌝ }
     {
         let most = wide(self.highest);
         if self.opened {
-            if most < self.head {
-                return false;
-            }
             if self.used < self.freed {
                 return false;
             }
-            return self.used <= most + 1;
+            if most + 1 < self.used {
+                return false;
+            }
+            if self.freed == 0 {
+                return self.head == 0;
+            }
+            return self.head < self.used;
         }
         if 0 < most {
             return false;
@@ -164,7 +167,7 @@ impl OutgoingChannels {
         self.used
     }
 
-    // The number that was freed last, where one is free that was handed out before.
+    // The number that was freed last, and 0 where none is free that was handed out before.
     pub fn head(self) -> u32
         ensures { λ r. ⌜ r ≡ self .head ⌝ }
     {
@@ -239,7 +242,7 @@ impl OutgoingChannels {
         }
     }
 
-    // The number that was freed last. The one after it by the links is tested before it is kept.
+    // The number that was freed last. The one after it by the links is kept only if it was handed out before.
     fn hand_out_freed(mut self, t: &mut [u8], handle: u32) -> Allocation
         requires { ⌜ (self .opened ≡ true) × (self .freed ≡ 0 → ⊥) ⌝ }
         ensures { λ r. ⌜ Allocates self (now (t .entry)) handle r (now (t .exit)) ⌝ }
@@ -252,7 +255,7 @@ impl OutgoingChannels {
             return self.full();
         }
         let next = self.after_head(t);
-        if wide(self.highest) < next {
+        if self.used <= next {
             return self.full();
         }
         take(t, k, handle);

@@ -16,7 +16,7 @@ use Rattle.connection_model.specs.Connection.{Role}
 use Rattle.connection_model.specs.Sound.{Reached}
 use Rattle.channels.specs.Channels.{agreedSays}
 use Rattle.channels.specs.declared.OutgoingChannels.{OutgoingChannels}
-use Rattle.channels.proofs.Limits.{opened-limits, closed-limits, used-low}
+use Rattle.channels.proofs.Limits.{opened-limits, opened-head, closed-limits, used-low}
 use Rattle.endpoint.specs.Promises as E
 use Rattle.endpoint.proofs.Limits.{limits-counted, reached-limits}
 use Rattle.connection.specs.View as C
@@ -78,7 +78,7 @@ module _ (e : ConnectionEngine) (t id : List ℕ) (z : Sound (whole e t id)) whe
       (omega (arith, a .reading-own, within .size-high), a .writing-high)
 
   head-within : (b : Bool) → n .opened ≡ b → n .head ≤ 65535
-  head-within true o = omega (arith, opened-limits n o (z .held .numbers .within) .low-head, highest-within)
+  head-within true o = omega (arith, opened-head n (opened-limits n o (z .held .numbers .within)), highest-within)
   head-within false o = omega (arith, closed-limits n o (z .held .numbers .within) .no-head)
 
   freed-within : (b : Bool) → n .opened ≡ b → n .freed ≤ 65536

@@ -31,9 +31,6 @@ returns-2 c = search (freed-short, not-true, needs)
 after-head-requires : tie.Need-after-head-requires
 after-head-requires c κs = search (has-true, not-false, needs)
 
-wide-requires-2 : tie.Need-wide-requires-2
-wide-requires-2 c κs = search needs
-
 full-requires-3 : tie.Need-full-requires-3
 full-requires-3 c κs = search needs
 
@@ -70,7 +67,6 @@ hand-out-freed-spec =
     same-length
     returns-2
     after-head-requires
-    wide-requires-2
     full-requires-3
     same-length-2
     returns-3
