@@ -7,14 +7,17 @@
  * The hub gives each session a handle: the number of its row in a table. A session's presses are the Transfers that its engine hands on with that handle.
  *
  * Pad B is replaced by pad D on lane 2. D dials in on a connection of its own while B's last presses are still on their way. As soon as D's session begins, the hub
- * ends B's session: it sends an End and frees the channel that it used. It goes on reading B's connection until B's own End: frames that B sent before it heard
- * of its end are late, and the engine still gives them B's handle. So they are counted for B, and none for D. Later pad A ends its session and begins another
- * on the same channel: that is a new handle, and a new row.
+ * ends B's session: it sends an End. It goes on reading B's connection until B's own End: frames that B sent before it heard of its end are late, and the engine still
+ * gives them B's handle. So they are counted for B, and none for D. Only when B's End has come does the hub free the channel that it used: with the channel the engine
+ * drops the tie by which B's frames are known as the session's, and a frame that came after that would close B's connection.
+ * Pad E is replaced by pad I on lane 4 in the same way, but E goes on pressing after its own End. These frames belong to no session: they are counted for nobody, and
+ * the engine closes E's connection. I hears nothing of it.
+ * Later pad A ends its session and begins another on the same channel: that is a new handle, and a new row.
  *
  * A pad that does something wrong ends its own line, and the others go on. There are three ways:
  * - a call is refused, as for the header of pad G, or the header is another protocol's, as that of F: the hub hangs up;
  * - the engine has stopped, as for a frame of H that is too long: the hub sends what was written, and hangs up;
- * - the engine has written a Close that tells the pad, and awaits the pad's Close, as for an End of E that belongs to no session. Until then it takes frames, which
+ * - the engine has written a Close that tells the pad, and awaits the pad's Close, as for the presses of E that belong to no session. Until then it takes frames, which
  *   are counted no more, and the end of the input. It refuses ticks and orders, so the hub asks for the phase before it makes one.
  * What was wrong first is told at the end, in words, beside the pad.
  */
@@ -24,14 +27,14 @@
 #include <stdlib.h>
 #include <string.h>
 
-enum { PADS = 8, LANES = 6, SESSIONS_EACH = 4, SESSIONS = PADS * SESSIONS_EACH, CHANNEL_MAX = 511, MAX_FRAME = 1024, MAX_PIECE = 255, TICK_EVERY = 32 };
+enum { PADS = 9, LANES = 6, SESSIONS_EACH = 4, SESSIONS = PADS * SESSIONS_EACH, CHANNEL_MAX = 511, MAX_FRAME = 1024, MAX_PIECE = 255, TICK_EVERY = 32 };
 
 typedef struct {
     const char *name;
     unsigned lane;
 } Pad;
 
-static const Pad PAD[PADS] = { { "A", 1 }, { "B", 2 }, { "C", 3 }, { "D", 2 }, { "E", 4 }, { "F", 5 }, { "G", 5 }, { "H", 6 } };
+static const Pad PAD[PADS] = { { "A", 1 }, { "B", 2 }, { "C", 3 }, { "D", 2 }, { "E", 4 }, { "F", 5 }, { "G", 5 }, { "H", 6 }, { "I", 4 } };
 
 typedef struct {
     unsigned pad;
@@ -167,15 +170,20 @@ static void send_attach_and_flow(Hub *hub, Line *line, uint16_t channel)
     send_frame(hub, line, channel, flow, sizeof flow);
 }
 
-/* The hub's part of a session is over: an End goes out, and the channel is free for another session. The pad's frames are still read. */
+/* The hub's part of a session is over: an End goes out. The pad's frames are still read, until its own End. */
 static void end_session(Hub *hub, Session *session)
 {
     static const uint8_t end[] = { 0x00, 0x53, 0x17, 0x45 };
-    Line *line = &hub->lines[session->pad];
     if (!session->is_open)
         return;
     session->is_open = 0;
-    send_frame(hub, line, session->channel, end, sizeof end);
+    send_frame(hub, &hub->lines[session->pad], session->channel, end, sizeof end);
+}
+
+/* The pad's End has come, and the hub's has gone out: the channel is free for another session. */
+static void free_channel(Hub *hub, Session *session)
+{
+    Line *line = &hub->lines[session->pad];
     if (takes_orders(line))
         done(hub, line, hisproat_on_deallocate(line->state, sizeof line->state, session->channel, hub->answer, sizeof hub->answer));
 }
@@ -216,6 +224,7 @@ static void on_session_frame(Hub *hub, Line *line, uint8_t performative, Session
         send_attach_and_flow(hub, line, session->channel);
     } else if (performative == HISPROAT_END) {
         end_session(hub, session);
+        free_channel(hub, session);
     }
 }
 

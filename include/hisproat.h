@@ -16,9 +16,10 @@
  *             believes nothing that stood there. Bytes past the tables are neither looked at nor changed.
  *             Every call checks the fixed part whole, its numbers, its limits, and that the phase is one that events can lead to in its state, and that the tables are
  *             long enough: what is not an engine's is refused with 8 and left as it is. The tables are not looked through: only hisproat_dialler and
- *             hisproat_listener, which clear a mark in each place, cost more for having more channels.
+ *             hisproat_listener, which clear two marks in each place, cost more for having more channels.
  *             The tables belong to the engine. If you write into them between calls, each call still ends, stays inside its slices, and changes nothing where
- *             it returns a refusal; but which channels are taken and tied is then up to what you wrote.
+ *             it returns a refusal; but which channels are taken and tied is then up to what you wrote. A tie that names no taken channel, or a list of ties that
+ *             leads astray, is met without a fault, and need not be refused with 8.
  *   input     bytes that are only read: a frame, waiting frames, a header, a text.
  *   output    where frames are written. At least HISPROAT_OUTPUT_ROOM bytes, whatever the length of a frame that you lend; where waiting frames are lent to the same
  *             call, hisproat_room(n), n being how many bytes of them there are. Less is refused with 9, also where nothing would be written. What was written
@@ -57,10 +58,17 @@
  * A handle is your 32-bit number for a session. The engine stores it and gives it back; it does not look at it.
  * An outgoing channel is taken by hisproat_on_allocate, or for a session that the peer begins (a listener's, kind BEGAN). Frames that you send for the
  * session carry it. It stays taken until hisproat_on_deallocate; the channel that was freed last is the next that is given.
- * An incoming channel is tied to a handle by a Begin, and its frames reach that handle. The tie ends with the peer's End on that channel, or with a later Begin on it,
- * which ties it to another handle. Freeing the outgoing channel leaves the tie: frames of the old session that are still on their way reach the old handle.
- * So a handle's number may stand for another session only when its outgoing channel is freed and no incoming channel is tied to it any more. A peer may tie several
- * channels to one handle, by a Begin on each; hisproat_tied_handle tells of each channel.
+ * An incoming channel is tied to a handle by a Begin, and its frames reach that handle. Each tie is made through the handle's outgoing channel: the one that the peer's
+ * Begin names, the one that a new session gets (BEGAN), or the one that a listener's own Begin is sent on. The tie ends with the peer's End on the incoming channel, or with
+ * a later Begin on it, which ties it anew; and it is dropped when the outgoing channel is freed (hisproat_on_deallocate), in every state. A peer may tie several channels
+ * through one, by a Begin on each; hisproat_tied_handle tells of each channel. Freeing drops all ties that were made through the channel, and no others: where two
+ * channels have the same handle, those of the other one stay.
+ *
+ * So end a session in this order: send your End (hisproat_on_outgoing); go on reading, since the frames that the peer sent before it heard of it still reach the handle;
+ * wait for the peer's End (kind FORWARD, detail HISPROAT_END), and answer it with your End if you have not sent one; then free the channel. A frame that comes on a channel
+ * that is not tied, because the outgoing channel was freed before the peer's End, or because the peer sent it after its End, belongs to no session. It is REFUSED with the
+ * detail 24 and reaches no handle, also where the freed number has been given to another session; the peer is told by a Close with an error, and the outcome will be
+ * NOT_FOUND. Once a handle's channels are freed no frame reaches it, and its number may stand for another session.
  *
  *
  * THE LIFE OF AN ENGINE
@@ -70,8 +78,8 @@
  * 3. hisproat_send_open, and hisproat_on_incoming with the peer's Open (kind OPENED).
  * 4. Frames: hisproat_on_incoming for each that comes, hisproat_on_outgoing for each that goes out. hisproat_on_tick writes an empty frame; call it at least once
  *    in half the peer's idle-time-out, which the answer to its Open has.
- * 5. The sessions end, by an End on each side. Then hisproat_on_close; or, with sessions or without, hisproat_on_close_with_error; or the peer's Close comes, and the
- *    engine answers it by itself.
+ * 5. The sessions end, by an End on each side, and their channels are freed. Then hisproat_on_close; or, with sessions or without, hisproat_on_close_with_error; or the
+ *    peer's Close comes, and the engine answers it by itself.
  * 6. The answer says stopped. Send what was written, then hang up.
  *
  * The phase (hisproat_status) is one of three. Running takes every event. An engine that met an error of the peer writes a Close that tells it, and then is
@@ -83,8 +91,8 @@
  *
  * There are no globals and no thread-local data. Calls on different states may run at the same time. Calls on one state, and on any slice that a call writes
  * to, must come one after the other. Nothing of the C library is used.
- * The most stack that was measured is 10,112 bytes, in hisproat_on_close_with_error while a frame waits whose values stand in arrays, sixteen deep; a Transfer that
- * comes takes 752. Give a thread that calls 12 KiB besides its own.
+ * The most stack that was measured is 10,096 bytes, in hisproat_on_close_with_error while a frame waits whose values stand in arrays, sixteen deep; a Transfer that
+ * comes takes 768. Give a thread that calls 12 KiB besides its own.
  *
  *
  * EXAMPLE: a listener that reads a whole recorded input. Returns the outcome, or -1 where an argument was refused.
@@ -238,7 +246,7 @@ enum {
     HISPROAT_OUTCOME_FINE = 0,                    /* closed by this side; another protocol; or the input ended after this side's Close */
     HISPROAT_OUTCOME_TRANSPORT_ERROR = 1,         /* a frame that cannot be read or is too long to send, or the input ended too early */
     HISPROAT_OUTCOME_ILLEGAL_STATE = 2,           /* a frame that the state does not allow; or an end or an error before the Opens */
-    HISPROAT_OUTCOME_NOT_FOUND = 3,               /* a frame for no session */
+    HISPROAT_OUTCOME_NOT_FOUND = 3,               /* a frame for no session, as one that comes after its channel was freed */
     HISPROAT_OUTCOME_NOT_IMPLEMENTED = 4,         /* a session that was not taken */
     HISPROAT_OUTCOME_REMOTE_CLOSED = 5,           /* closed by the peer */
     HISPROAT_OUTCOME_REMOTE_CLOSED_WITH_ERROR = 6 /* closed by the peer, with an error */
@@ -346,11 +354,12 @@ uint8_t hisproat_on_close_with_error(uint8_t *state, size_t state_len, const uin
 /* Takes an outgoing channel for the session `handle`. Kind CHANNEL. Refusals: 9, 8, 20 (phase), 22, 21, 23. */
 uint8_t hisproat_on_allocate(uint8_t *state, size_t state_len, uint32_t handle, uint8_t *answer, size_t answer_len);
 
-/* Frees an outgoing channel. Kind FREED: the number is its handle. Incoming ties stay as they are, and lead to that handle. Refusals: 9, 8, 20 (phase), 26. */
+/* Frees an outgoing channel, and drops every tie that was made through it. Kind FREED: the number is its handle. Free it after your End and the peer's: a frame of the
+ * session that comes later is for nobody (24), and closes the connection. Costs more only for the ties that it drops. Refusals: 9, 8, 20 (phase), 26. */
 uint8_t hisproat_on_deallocate(uint8_t *state, size_t state_len, uint16_t channel, uint8_t *answer, size_t answer_len);
 
 /* A session's frame goes out: one whole frame with its outgoing channel; bytes after it are not looked at. It is written in its shortest form, so the bytes may
- * differ from those lent. A listener's Begin that has a remote-channel ties that incoming channel to the handle of the channel that it is sent on.
+ * differ from those lent. A listener's Begin that has a remote-channel ties that incoming channel through the channel that it is sent on, to its handle.
  * Output: HISPROAT_OUTPUT_ROOM, however long the frame is: one that would be longer is not written (27).
  * Kind WROTE, or REFUSED: with the detail 27 the engine has stopped with TRANSPORT_ERROR; with 20 (not opened yet, or after hisproat_on_close) or 24 (a listener's
  * Begin on a channel that is not taken) as at hisproat_on_incoming.

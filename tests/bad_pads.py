@@ -62,12 +62,12 @@ def told(hub, recording):
 
 def main():
     hub, rounds = sys.argv[1], int(sys.argv[2]) if len(sys.argv) > 2 else 400
-    lanes = {"A": 1, "B": 2, "C": 3, "D": 2, "E": 4, "F": 5, "G": 5, "H": 6}
+    lanes = {"A": 1, "B": 2, "C": 3, "D": 2, "E": 4, "F": 5, "G": 5, "H": 6, "I": 4}
     pieces = records(Path(RECORDING).read_bytes())
     whole, chance, errors = told(hub, recorded(pieces)), random.Random(1), 0
     for n in range(rounds):
         pad = n % len(lanes)
-        name = "ABCDEFGH"[pad]
+        name = list(lanes)[pad]
         now = told(hub, recorded(damaged(pieces, pad, chance)))
         others = [other for other in lanes if lanes[other] != lanes[name] and now[other] != whole[other]]
         if others:

@@ -1,6 +1,6 @@
 #!/usr/bin/env bash
-# Tests of the C side: the headers as C and as C++, the example, that the archive needs no other code, the tests through C (under valgrind too), the stack, the frame reader, the instructions of a width, a bound on those
-# of reading, and the example hub against its stored output and with damaged pads.
+# Tests of the C side: the headers as C and as C++, the example, that the archive needs no other code, the tests through C (under valgrind too), the stack, that a tie costs the same however many there are, the frame
+# reader, the instructions of a width, a bound on those of reading, and the example hub against its stored output and with damaged pads.
 # Usage: tests/c.sh [ARCHIVE]; without ARCHIVE the library is built by rt, with the kit that keeps the module of it for tests/fuzz.sh. Installs gcc, g++ and valgrind where they are missing.
 # The last line is 'c.sh: N parts passed', and the exit status 0, where nothing was wrong.
 set -euo pipefail
@@ -44,12 +44,13 @@ needed=$(nm -u "$archive" | awk '$1 == "U" { print $2 }')
 [ -z "$needed" ] || { echo "c.sh: the archive needs" $needed >&2; exit 1; }
 passed "the archive needs nothing from outside"
 
-gcc -std=c11 -O2 "${warnings[@]}" -Itests/c tests/c/{crossing,rig,judge,fence,sizes,fresh,state_bytes,altered,many}.c "$archive" -o "$work/crossing"
+gcc -std=c11 -O2 "${warnings[@]}" -Itests/c tests/c/{crossing,rig,judge,fence,sizes,fresh,ties,state_bytes,altered,many}.c "$archive" -o "$work/crossing"
 gcc -std=c11 -O2 "${warnings[@]}" examples/hub.c "$archive" -o "$work/hub"
 gcc -std=c11 -O2 "${warnings[@]}" tests/c/speed.c "$archive" -pthread -o "$work/speed"
 passed "the tests, the hub and the measuring program are built"
 
-"$work/crossing" all
+# a call that does not end, on tables that were altered, would run for ever
+timeout 600 "$work/crossing" all
 passed "the library through C"
 
 valgrind --error-exitcode=1 -q "$work/crossing" | tail -n 1
@@ -59,6 +60,23 @@ stated=$(sed -n 's/.*The most stack that was measured is \([0-9,]*\) bytes.*/\1/
 stack=$("$work/speed" stack)
 [ "$stack" -le "${stated:-0}" ] || { echo "c.sh: a call uses $stack bytes of stack, and the header says $stated" >&2; exit 1; }
 passed "no call uses more stack than the header says: $stack bytes"
+
+instructions() { # OPERATION COUNT: of one round, set-up left out
+    local few many
+    few=$(valgrind --tool=callgrind --callgrind-out-file=/dev/null "$work/speed" "$@" 10 2>&1 > /dev/null | sed -n 's/.*Collected *: *\([0-9]*\).*/\1/p')
+    many=$(valgrind --tool=callgrind --callgrind-out-file=/dev/null "$work/speed" "$@" 110 2>&1 > /dev/null | sed -n 's/.*Collected *: *\([0-9]*\).*/\1/p')
+    echo $(((many - few) / 100))
+}
+
+# a list of ties that is gone through would take thousands
+costs=
+for operation in tie retie untie free; do
+    few=$(instructions "$operation" 256)
+    many=$(instructions "$operation" 65536)
+    [ "$few" -gt 100 ] && [ "$many" -le $((few + 16)) ] || { echo "c.sh: $operation takes $few instructions with 256 ties, and $many with 65,536" >&2; exit 1; }
+    costs="$costs $operation $many"
+done
+passed "ties take the same instructions with 256 and with 65,536 of them:$costs"
 
 gcc -std=c11 -O2 "${warnings[@]}" tests/c/frame_reader.c "$reader" "$archive" -o "$work/frame_reader"
 "$work/frame_reader"

@@ -169,7 +169,7 @@ def ends():
 
 
 def late():
-    title("late frames: the pad frees channel 2, which the hub's channel 3 is tied to")
+    title("late frames: the pad frees channel 2, and the tie of the hub's channel 3 goes with it, for good")
     call("pad", "deallocate_session", 2)
     to_pad(3, begin_for(2))
     to_pad(3, TRANSFER)
@@ -178,6 +178,21 @@ def late():
     to_pad(3, DISPOSITION)
     to_pad(0, FLOW)
     to_hub(2, TRANSFER)
+    both("channels")
+
+
+def same_handle():
+    title("two channels of the pad with one handle: freeing one drops the tie through it, and not the other")
+    call("pad", "allocate_session", 10)
+    call("hub", "allocate_session", 109)
+    to_pad(2, begin_for(1))
+    both("channels")
+    call("pad", "deallocate_session", 1)
+    to_pad(2, FLOW)
+    to_pad(1, FLOW)
+    title("a tie that the hub's own Begin made goes with the channel that it was sent on")
+    call("hub", "deallocate_session", 2)
+    to_hub(1, TRANSFER)
     both("channels")
 
 
@@ -323,6 +338,10 @@ def large_ends():
     to_pad(LESS, TRANSFER)
     call("hub", "channels", 4, in_two(LESS - 2))
     call("pad", "channels", 4, in_two(LESS - 2))
+    title("a large channel is freed while it is tied")
+    call("pad", "deallocate_session", 0x0200)
+    to_pad(LESS, TRANSFER)
+    call("pad", "channels", 4, in_two(LESS - 2))
     title("another life: the pad's Open names no channel-max, which is 65535")
     call("hub", "listener", 16384, in_two(MOST))
     call("hub", "send_header")
@@ -334,6 +353,6 @@ def large_ends():
     call("hub", "allocate_session", 9000)
 
 
-for part in (opening, sessions, traffic, ends, late, refusals, closing, other_lives, large_opening, large_sessions, large_ends):
+for part in (opening, sessions, traffic, ends, late, same_handle, refusals, closing, other_lives, large_opening, large_sessions, large_ends):
     part()
 print("\n".join(lines))

@@ -8,12 +8,14 @@ next, are from a fixed pseudo-random sequence. The frames are made here by hand 
 The story, in five scenes. Pieces of different pads are mixed within a scene, not across scenes.
 1. The pads A, B and C connect, begin a session each and send presses. A is on lane 1, B on lane 2, C on lane 3. So do E on lane 4 and H on lane 6.
    Most use low channels; C uses 300, and D later 511, the highest that the hub takes.
-2. B is replaced: the pad D connects for lane 2, and begins a session. The hub takes it, and ends B's session. On lane 5 the pad F comes, which wants to speak
-   SASL first, and then G, which is no pad: it sends an HTTP request.
-3. B has not heard of that yet: presses that it sent before still arrive, between those of D and of the others. E ends a session that it has not got, and goes on
-   with presses for the one that it has. H sends a press with a message that is longer than the hub takes, and goes on too.
-4. B hears it, ends its session too and closes. A ends its session and begins a new one on the same channel.
-5. A, C and D send a few more presses. A and D end their sessions and close; C is switched off. E has heard that the hub has closed its line, and closes too.
+2. B is replaced: the pad D connects for lane 2, and begins a session. The hub takes it, and ends B's session. E is replaced too, by the pad I for lane 4. On lane 5 the
+   pad F comes, which wants to speak SASL first, and then G, which is no pad: it sends an HTTP request.
+3. B and E have not heard of that yet: presses that they sent before still arrive, between those of D, of I and of the others. H sends a press with a message that is
+   longer than the hub takes, and goes on too.
+4. B hears it, ends its session too and closes. E hears it, ends its session too, and goes on pressing all the same: these presses belong to no session. A ends its
+   session and begins a new one on the same channel.
+5. A, C, D and I send a few more presses, and E too. A, D and I end their sessions and close; C is switched off. E has heard that the hub has closed its line, and
+   closes too.
 """
 import struct
 import sys
@@ -102,15 +104,17 @@ def close():
     return frame(0, described(CLOSE))
 
 
-A, B, C, D, E, F, G, H = range(8)
+A, B, C, D, E, F, G, H, I = range(9)
 
 SCENES = [
     {A: hello('pad-a') + session(0, 1) + presses(0, 0, 9), B: hello('pad-b') + session(0, 2) + presses(0, 0, 7), C: hello('pad-c') + session(300, 3) + presses(300, 0, 8),
      E: hello('pad-e') + session(0, 4) + presses(0, 0, 5), H: hello('pad-h') + session(2, 6) + presses(2, 0, 6)},
-    {D: hello('pad-d') + session(511, 2), F: sasl(), G: http()},
-    {A: presses(0, 9, 3), B: presses(0, 7, 5), C: presses(300, 8, 4), D: presses(511, 0, 6), E: end(6) + presses(0, 5, 4), H: long_press(2, 6, 2000) + presses(2, 7, 3)},
-    {A: end(0) + session(0, 1) + presses(0, 0, 4), B: end(0) + close(), C: presses(300, 12, 2), D: presses(511, 6, 3), E: presses(0, 9, 4)},
-    {A: presses(0, 4, 2) + end(0) + close(), C: presses(300, 14, 3), D: presses(511, 9, 5) + end(511) + close(), E: close()},
+    {D: hello('pad-d') + session(511, 2), F: sasl(), G: http(), I: hello('pad-i') + session(1, 4)},
+    {A: presses(0, 9, 3), B: presses(0, 7, 5), C: presses(300, 8, 4), D: presses(511, 0, 6), E: presses(0, 5, 3), H: long_press(2, 6, 2000) + presses(2, 7, 3), I: presses(1, 0, 2)},
+    {A: end(0) + session(0, 1) + presses(0, 0, 4), B: end(0) + close(), C: presses(300, 12, 2), D: presses(511, 6, 3),
+     E: end(0) + presses(0, 8, 4), I: presses(1, 2, 4)},
+    {A: presses(0, 4, 2) + end(0) + close(), C: presses(300, 14, 3), D: presses(511, 9, 5) + end(511) + close(),
+     E: presses(0, 12, 2) + close(), I: presses(1, 6, 3) + end(1) + close()},
 ]
 
 

@@ -211,7 +211,8 @@ static void drive(Bench *b)
 
 /* ---- Alterations */
 
-/* A copy of an engine's state, with bytes behind its tables, on which alterations are tried. */
+/* A copy of an engine's state, with bytes behind its tables, on which alterations are tried. These bytes look like the place of one more channel, which is tied through
+ * channel 1, so that whoever goes on there would write there too. */
 static Bench bench_of(Tally *t, const Engine *engine, unsigned stride)
 {
     size_t len = engine->state.len + MORE;
@@ -220,6 +221,8 @@ static Bench bench_of(Tally *t, const Engine *engine, unsigned stride)
         exit(2);
     memcpy(b.state, engine->state.at, engine->state.len);
     memset(b.state + engine->state.len, 0x77, MORE);
+    put_field(b.state, fixed_number(b.state, AT_CHANNEL_MAX) + 1, TIED_THROUGH, 2);
+    put_field(b.state, fixed_number(b.state, AT_CHANNEL_MAX) + 1, NEXT, 1);
     return b;
 }
 
@@ -229,8 +232,8 @@ static void end_bench(Bench *b)
     free(b->after);
 }
 
-/* Numbers about the limits of a channel, a link and a count. */
-static const uint32_t VALUES[] = { 0, 1, 3, AGREED_MAX, AGREED_MAX + 1, CHANNEL_MAX, CHANNEL_MAX + 1, 65535, 65536, 65537, 0x80000000, 0xFFFFFFFF };
+/* Numbers about the limits of a channel, a link and a count. In a list of ties CHANNEL_MAX + 1 is the last channel, and CHANNEL_MAX + 2 the place behind the tables. */
+static const uint32_t VALUES[] = { 0, 1, 3, AGREED_MAX, AGREED_MAX + 1, CHANNEL_MAX, CHANNEL_MAX + 1, CHANNEL_MAX + 2, 65535, 65536, 65537, 0x80000000, 0xFFFFFFFF };
 
 enum { VALUE_COUNT = sizeof VALUES / sizeof VALUES[0] };
 
@@ -280,6 +283,30 @@ static void circles(Bench *b)
     memcpy(b->state, kept, sizeof kept);
 }
 
+/* Every channel is tied through channel 1, and the list of channel 1 has so many of them, linked in a circle. One thing is altered besides: where the list begins, where it leads
+ * to at its end, what comes before a channel, or through which channel some of them are tied. */
+static void tie_lists(Bench *b)
+{
+    static const char *const ALTERED[] = { "begins with", "ends with", "leads back to", "has a tie through" };
+    uint8_t kept[HISPROAT_STATE_SIZE(CHANNEL_MAX)];
+    memcpy(kept, b->state, sizeof kept);
+    for (uint32_t length = 1; length <= CHANNEL_MAX + 1; length++)
+        for (unsigned what = 0; what < 4; what++)
+            for (size_t i = 0; i < VALUE_COUNT; i++) {
+                for (uint32_t k = 0; k <= CHANNEL_MAX; k++) {
+                    put_field(b->state, k, TIED_THROUGH, what == 3 && k % 3 == 1 ? VALUES[i] : 2);
+                    put_field(b->state, k, NEXT, (k + 1) % length + 1);
+                    put_field(b->state, k, PREVIOUS, what == 2 ? VALUES[i] : (k + length - 1) % length + 1);
+                }
+                put_field(b->state, 1, FIRST, what == 0 ? VALUES[i] : 1);
+                if (what == 1)
+                    put_field(b->state, length - 1, NEXT, VALUES[i]);
+                snprintf(b->name, sizeof b->name, "a list of ties, a circle of %u, %s %u", length, ALTERED[what], VALUES[i]);
+                drive(b);
+            }
+    memcpy(b->state, kept, sizeof kept);
+}
+
 static void alter_all(Tally *t, const Engine *engine, unsigned stride)
 {
     Bench b = bench_of(t, engine, stride);
@@ -292,50 +319,73 @@ static void alter_all(Tally *t, const Engine *engine, unsigned stride)
     one_number(&b, AT_FREED, "freed");
     one_number(&b, AT_AGREED_MAX, "the agreed channel-max");
     circles(&b);
+    tie_lists(&b);
     check(t, memcmp(b.state, engine->state.at, engine->state.len) == 0, "each alteration was put back");
     end_bench(&b);
 }
 
-/* ---- The engines: channel-max 7, agreed 5; taken and tied channels, and freed ones out of order */
+/* ---- The engines: channel-max 7, agreed 5; taken channels, three ties through one of them and one through another, and freed channels out of order */
 
 static Engine busy(Tally *t, int is_listener)
 {
-    Piece peer_open = frame(0, "005310 C0 09 04 A10168 40 40 600005"), ties_6 = begin_for(6, 1), ties_7 = begin_for(7, 3);
+    static const uint16_t TIES[][2] = { { 6, 1 }, { 7, 1 }, { 5, 4 }, { 2, 1 } };
+    Piece peer_open = frame(0, "005310 C0 09 04 A10168 40 40 600005");
     Engine e = new_engine(t, is_listener, p1());
     open_with(&e, of(&peer_open));
     for (uint32_t i = 0; i < 5; i++)
         allocate(&e, 0xA0000000 + i);
-    incoming(&e, of(&ties_6), 0);
-    incoming(&e, of(&ties_7), 0);
+    for (size_t i = 0; i < sizeof TIES / sizeof TIES[0]; i++) {
+        Piece begins = begin_for(TIES[i][0], TIES[i][1]);
+        incoming(&e, of(&begins), 0);
+    }
     deallocate(&e, 2);
     deallocate(&e, 0);
     deallocate(&e, 3);
-    check(t, are_shared(e.state.at) && status(&e).channel_max == AGREED_MAX && status(&e).taken == 2, "an engine to be altered");
+    check(t, are_shared(e.state.at) && are_tied(e.state.at) && status(&e).channel_max == AGREED_MAX && status(&e).taken == 2, "an engine to be altered");
+    check(t, tied_through(e.state.at, 2) == 1 && tied_through(e.state.at, 5) == 4 && field_of(e.state.at, 1, FIRST) == 3, "with ties");
     return e;
 }
 
 /* The same with 65,536 channels, at their far end. */
 static void alter_large(Tally *t, unsigned stride)
 {
-    static const uint32_t TOP[] = { 0, 65534, 65535, 65536, 0xFFFFFFFF };
+    static const uint32_t TOP[] = { 0, 65534, 65535, 65536, 65537, 0xFFFFFFFF };
     Settings settings = p1();
     settings.channel_max = 65535;
     Engine e = new_engine(t, 1, settings);
     Piece peer_open = frame(0, "005310 C0 04 01 A10168");
     open_with(&e, of(&peer_open));
     Bench b = bench_of(t, &e, stride);
-    for (size_t i = 0; i < 5; i++)
-        for (size_t j = 0; j < 5; j++) {
+    for (size_t i = 0; i < 6; i++)
+        for (size_t j = 0; j < 6; j++) {
             put_fixed_number(b.state, AT_USED, i % 2 ? 65536 : 65535);
             put_fixed_number(b.state, AT_FREED, j % 2 ? 65535 : 2);
             put_fixed_number(b.state, AT_HEAD, TOP[j]);
             put_field(b.state, 65535, LINK, TOP[i]);
-            put_field(b.state, 65534, LINK, TOP[(i + j) % 5]);
+            put_field(b.state, 65534, LINK, TOP[(i + j) % 6]);
             put_field(b.state, 0, LINK, 65535);
-            put_field(b.state, 65535, TIED, TOP[j]);
-            snprintf(b.name, sizeof b.name, "65,536 channels: head %u, links %u and %u", TOP[j], TOP[i], TOP[(i + j) % 5]);
+            put_field(b.state, 1, LINK, TAKEN_LINK);
+            put_field(b.state, 1, FIRST, TOP[j]);
+            put_field(b.state, 65535, TIED_THROUGH, i % 2 ? 2 : TOP[j]);
+            put_field(b.state, 65535, NEXT, TOP[i]);
+            put_field(b.state, 65535, PREVIOUS, TOP[(i + j) % 6]);
+            snprintf(b.name, sizeof b.name, "65,536 channels: head %u, links %u and %u", TOP[j], TOP[i], TOP[(i + j) % 6]);
             drive(&b);
         }
+    /* all of them in the list of channel 1, which has no end */
+    for (uint32_t k = 0; k < MOST_CHANNELS; k++) {
+        put_field(b.state, k, TIED_THROUGH, 2);
+        put_field(b.state, k, NEXT, (k + 1) % MOST_CHANNELS + 1);
+        put_field(b.state, k, PREVIOUS, (k + MOST_CHANNELS - 1) % MOST_CHANNELS + 1);
+    }
+    put_field(b.state, 1, LINK, TAKEN_LINK);
+    put_field(b.state, 1, FIRST, 2);
+    put_fixed_number(b.state, AT_USED, 65536);
+    put_fixed_number(b.state, AT_FREED, 0);
+    put_fixed_number(b.state, AT_HEAD, 0);
+    Order frees = { .event = ON_DEALLOCATE, .input = none(), .description = none(), .waiting = none(), .number = 1 };
+    snprintf(b.name, sizeof b.name, "65,536 ties in a circle");
+    check(t, tried(&b, &frees) == 0 && tied_to(b.after, 65535) == -1 && tied_to(b.after, 0) == -1, "the walk along a circle of 65,536 ties ends, and has dropped them");
     end_bench(&b);
     drop_engine(&e);
 }

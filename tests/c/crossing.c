@@ -15,7 +15,7 @@
  * Each of its rows goes through C. Three things look different from here:
  * - a row that only reads a header is a new engine's receive_header; one that only reads a frame is a new engine's on_incoming, whose reading limit is 512;
  * - the refusal of a frame that came, other than 1, is no refusal of the event: it is told by the answer, and the engine takes its error path;
- * - so after the last row but two (24) the state is Discarding, where a bare connection would still be Opened. */
+ * - so after a 24 the state is Discarding, where a bare connection would still be Opened: the row that comes after it is tried on a copy from before. */
 
 static void wall_header(Tally *t, const char *digits, int sent_before, uint8_t refused, uint8_t kind, uint8_t state)
 {
@@ -72,13 +72,16 @@ static void wall_ties(Tally *t)
     Said said = incoming(&e, of(&begin_5_for_2), 0);
     check(t, said.kind == HISPROAT_KIND_FORWARD && said.detail == HISPROAT_BEGIN && said.number == 12, "Begin on 5 for 2");
     check(t, deallocate(&e, 2).number == 12, "free 2");
+    Engine before = copy_of(&e);
     said = incoming(&e, of(&attach_5), 0);
-    check(t, said.kind == HISPROAT_KIND_FORWARD && said.detail == HISPROAT_ATTACH && said.number == 12, "Attach on 5 still reaches the old handle");
-    said = incoming(&e, of(&begin_5_for_2), 0);
-    check(t, said.kind == HISPROAT_KIND_REFUSED && said.detail == HISPROAT_REFUSED_NOT_FOUND && said.consumed == 20, "Begin for 2 gives 24");
+    check(t, said.kind == HISPROAT_KIND_REFUSED && said.detail == HISPROAT_REFUSED_NOT_FOUND && said.consumed == attach_5.len, "Attach on 5 gives 24");
     check(t, same(wire(&e), of(&not_found)), "the peer is told by a Close");
     check(t, status(&e).phase == HISPROAT_PHASE_AWAITING && status(&e).state == HISPROAT_STATE_DISCARDING, "its Close is awaited");
+    said = incoming(&before, of(&begin_5_for_2), 0);
+    check(t, said.kind == HISPROAT_KIND_REFUSED && said.detail == HISPROAT_REFUSED_NOT_FOUND && said.consumed == 20, "Begin for 2 gives 24");
+    check(t, same(wire(&before), of(&not_found)), "the peer is told by a Close");
     drop_engine(&e);
+    drop_engine(&before);
 }
 
 static void wall_written(Tally *t)
@@ -166,6 +169,12 @@ static void session(Pair *p, uint16_t channel, uint32_t handle, uint32_t spare, 
     check(t, handle_at(&p->hub, back) == spare && tied_handle(&p->hub, channel) == spare, "the hub's channels have its handle");
 }
 
+static void part_from(Pair *p)
+{
+    drop_engine(&p->pad);
+    drop_engine(&p->hub);
+}
+
 static Pair introduced(Tally *t)
 {
     Settings hub = { .container_id = "hub", .max_frame_size = 16384, .channel_max = 3, .has_idle_time_out = 255, .idle_time_out = 30000 };
@@ -181,12 +190,6 @@ static Pair introduced(Tally *t)
     opened = deliver(&p.hub, &p.pad, 0);
     check(t, opened.kind == HISPROAT_KIND_OPENED && opened.number == 30000, "the hub's Open has one");
     return p;
-}
-
-static void part_from(Pair *p)
-{
-    drop_engine(&p->pad);
-    drop_engine(&p->hub);
 }
 
 static void limits_agreed(Pair *p)
@@ -221,7 +224,25 @@ static void shortened(Pair *p)
     check(t, deliver(&p->pad, &p->hub, 0).kind == HISPROAT_KIND_FORWARD, "and is taken");
 }
 
-/* Sessions end, and their channels are used again. Then the hub frees a channel while the pad still sends on its session. */
+/* The hub has freed the channel of a session: a frame that the pad still sends on it belongs to nobody, whoever has the channel then. Tried on copies. */
+static void too_late(Pair *p, const char *what)
+{
+    Tally *t = p->pad.tally;
+    Piece transfer = frame(0, TRANSFER), told = close_with("amqp:not-found", "");
+    Pair copies = { .pad = copy_of(&p->pad), .hub = copy_of(&p->hub) };
+    check(t, outgoing(&copies.pad, of(&transfer)).kind == HISPROAT_KIND_WROTE, "a late frame goes out");
+    Said said = deliver(&copies.pad, &copies.hub, 0);
+    check(t, said.kind == HISPROAT_KIND_REFUSED && said.detail == HISPROAT_REFUSED_NOT_FOUND && said.number == 0 && !said.stopped, what);
+    check(t, same(wire(&copies.hub), of(&told)) && status(&copies.hub).outcome == HISPROAT_OUTCOME_NOT_FOUND, "and the hub closes the connection with an error");
+    said = deliver(&copies.hub, &copies.pad, 0);
+    check(t, said.kind == HISPROAT_KIND_CLOSED && said.outcome == HISPROAT_OUTCOME_REMOTE_CLOSED_WITH_ERROR, "which the pad is told");
+    said = deliver(&copies.pad, &copies.hub, 0);
+    check(t, said.stopped && said.outcome == HISPROAT_OUTCOME_NOT_FOUND, "until its Close comes back");
+    part_from(&copies);
+}
+
+/* Sessions end, and their channels are used again. Then the hub ends a session while the pad still sends on it, in the order that loses no frame: its End, the pad's End, and
+ * only then it frees the channel. */
 static void ends_and_late_frames(Pair *p)
 {
     Tally *t = p->pad.tally;
@@ -231,20 +252,30 @@ static void ends_and_late_frames(Pair *p)
     check(t, deallocate(&p->hub, 1).number == 100 && deallocate(&p->pad, 0).number == 10, "both free their channels");
     check(t, handle_at(&p->hub, 1) == -1 && handle_at(&p->pad, 0) == -1, "and nobody has them");
     session(p, 0, 12, 102, 1);
-    check(t, deallocate(&p->hub, 1).number == 102, "the hub frees the channel of a session");
+    passes(&p->hub, &p->pad, frame(1, END), HISPROAT_END, 12);
     passes(&p->pad, &p->hub, frame(0, TRANSFER), HISPROAT_TRANSFER, 102);
-    check(t, allocate(&p->hub, 103).channel == 1, "and gives it to another");
-    passes(&p->pad, &p->hub, frame(0, TRANSFER), HISPROAT_TRANSFER, 102);
-    check(t, handle_at(&p->hub, 1) == 103 && tied_handle(&p->hub, 0) == 102, "late frames reach the old handle");
+    check(t, handle_at(&p->hub, 1) == 102 && tied_handle(&p->hub, 0) == 102, "after the hub's End late frames still reach the handle");
+    Pair early = { .pad = copy_of(&p->pad), .hub = copy_of(&p->hub) };
+    check(t, deallocate(&early.hub, 1).number == 102 && tied_handle(&early.hub, 0) == -1, "a channel that is freed before the pad's End takes its tie with it");
+    too_late(&early, "a frame on a channel that was freed too early");
+    check(t, allocate(&early.hub, 103).channel == 1 && tied_handle(&early.hub, 0) == -1, "the channel is given to another session");
+    too_late(&early, "which late frames do not reach");
+    part_from(&early);
+    passes(&p->pad, &p->hub, frame(0, END), HISPROAT_END, 102);
+    check(t, deallocate(&p->hub, 1).number == 102, "after the pad's End the hub frees the channel");
+    too_late(p, "a frame of the pad after its own End");
+    check(t, allocate(&p->hub, 103).channel == 1 && deallocate(&p->pad, 0).number == 12, "both channels are free for others");
+    too_late(p, "a frame of a session that is over");
+    session(p, 0, 13, 104, 3);
 }
 
 /* A listener's Begin ties the channel that it names to the handle that sends it; a dialler's ties nothing. */
 static void ties_by_sending(Pair *p)
 {
     Tally *t = p->pad.tally;
-    Piece from_hub = begin_for(0, 3), from_pad = begin_for(0, 3);
+    Piece from_hub = begin_for(0, 3), from_pad = begin_for(0, 0);
     check(t, outgoing(&p->hub, of(&from_hub)).kind == HISPROAT_KIND_WROTE && tied_handle(&p->hub, 3) == 90, "a listener's Begin ties");
-    check(t, outgoing(&p->pad, of(&from_pad)).kind == HISPROAT_KIND_WROTE && tied_handle(&p->pad, 3) == -1, "a dialler's does not");
+    check(t, outgoing(&p->pad, of(&from_pad)).kind == HISPROAT_KIND_WROTE && tied_handle(&p->pad, 0) == -1, "a dialler's does not");
 }
 
 /* The pad closes while frames wait; the hub answers by itself. */
@@ -849,7 +880,7 @@ static void closed_cleanly(Tally *t)
     ends_with(&e, incoming(&e, of(&close), 0), HISPROAT_OUTCOME_FINE, "a close order with an error under traffic");
 }
 
-/* A Begin on a channel that is tied replaces the tie; freeing an outgoing channel leaves it. */
+/* A Begin on a channel that is tied replaces the tie. */
 static void tie_replaced(Tally *t)
 {
     Piece first = hex("00000014 02000005 005311 C00704 600002 434343"), second = hex("00000014 02000005 005311 C00704 600001 434343");
@@ -859,7 +890,7 @@ static void tie_replaced(Tally *t)
     check(t, incoming(&e, of(&second), 0).number == 11 && tied_handle(&e, 5) == 11, "a second one on the same channel ties it to another handle");
     check(t, incoming(&e, of(&attach), 0).number == 11, "which its frames then reach");
     check(t, incoming(&e, of(&also), 0).number == 11 && tied_handle(&e, 5) == 11 && tied_handle(&e, 6) == 11, "two channels may be tied to one handle");
-    check(t, deallocate(&e, 1).number == 11 && tied_handle(&e, 5) == 11, "freeing its outgoing channel leaves the ties");
+    check(t, deallocate(&e, 2).number == 12 && tied_handle(&e, 5) == 11, "freeing the outgoing channel of the tie that was replaced changes nothing");
     check(t, incoming(&e, of(&end), 0).number == 11 && tied_handle(&e, 5) == -1 && tied_handle(&e, 6) == 11, "an End ends the tie of its own channel");
     drop_engine(&e);
     e = opened(t, 1);
@@ -910,8 +941,8 @@ static void kept(Tally *t)
 int main(int argc, char **argv)
 {
     Tally t = { .part = "" }, totals = { .part = "" };
-    void (*const parts[])(Tally *) = { wall, conversation, refusals, outcomes, kept, sizes, fresh_tables };
-    void (*const long_parts[])(Tally *, int) = { state_bytes, altered_tables, many_channels };
+    void (*const parts[])(Tally *) = { wall, conversation, refusals, outcomes, kept, sizes, fresh_tables, ties };
+    void (*const long_parts[])(Tally *, int) = { state_bytes, altered_tables, tie_walks, many_channels };
     size_t count = sizeof parts / sizeof parts[0];
     for (size_t i = 0; i < count; i++) {
         parts[i](&t);

@@ -10,7 +10,8 @@ enum { CHANNEL_MAX = 7 };
 
 static uint8_t filler(unsigned kind, size_t i)
 {
-    static const uint8_t LOOKS_TAKEN[HISPROAT_PLACE_SIZE] = { 0, 1, 0, 0, 0, 0, 0, 42, 0, 0, 0, 0, 0, 0, 0, 1, 0, 0, 0, 43 };
+    /* taken by 42, with a list that begins with channel 2; tied through channel 0 to 43, and between the channels 4 and 2 in a list */
+    static const uint8_t LOOKS_TAKEN[HISPROAT_PLACE_SIZE] = { 0, 1, 0, 0, 0, 0, 0, 42, 0, 0, 0, 3, 0, 0, 0, 1, 0, 0, 0, 43, 0, 0, 0, 5, 0, 0, 0, 3 };
     switch (kind) {
     case 0:
         return 0xFF;

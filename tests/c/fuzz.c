@@ -7,7 +7,8 @@
  * - on a refusal no byte of state, output and answer is changed, and no byte of the inputs ever;
  * - else the answer is one that the header allows, its counts lie within the slices, only the bytes that it tells of are written, these are whole frames within the
  *   writing limit, the fixed part is an engine's with the same settings, and the bytes past the tables are as they were;
- * - where the tables are as an engine leaves them, they are so afterwards, and channels, handles and ties before and after are what the answer tells;
+ * - where the tables are as an engine leaves them, they are so afterwards, and channels, handles and ties before and after are what the answer tells: each tie is through one
+ *   outgoing channel, stands in its list, and goes when it is freed;
  * - both calls give the same.
  * The first of the two has its slices right before memory that cannot be touched, the second right behind: an access beside a slice ends the program.
  */
@@ -81,7 +82,8 @@ typedef struct {
     size_t output_len;
     size_t answer_len;
     int sound; /* whether the state's bytes are an engine's */
-    int whole; /* and its tables are as an engine leaves them */
+    int whole; /* and its channel numbers are as an engine leaves them */
+    int tied;  /* and its ties are */
 } Call;
 
 static const Call *current; /* for the report of a fault */
@@ -675,17 +677,49 @@ static void check_numbers(const uint8_t *a)
         demand(start == 0 && length == 0, "a body, and the kind has none");
 }
 
-/* What an event does with channels and ties, by its answer: which outgoing channel is taken or freed, and which incoming one is tied or untied. -1 for none. */
+/* What an event does with channels and ties, by its answer: which outgoing channel is taken or freed, which incoming one is tied or untied, and through which outgoing one
+ * it is tied. -1 for none. */
 typedef struct {
-    int64_t taken, freed, tied, untied;
+    int64_t taken, freed, tied, untied, through;
     uint32_t handle;
 } Change;
 
-static Change change_of(const Call *c, const uint8_t *a)
+/* The remote-channel of a frame that was taken, where it is a Begin that has one; else -1. Its descriptor has one byte or eight, and its list sizes of one byte or four. */
+static int64_t remote_channel(Bytes frame)
 {
-    Change change = { -1, -1, -1, -1, hisproat_handle(a) };
-    int64_t incoming = c->function == ON_INCOMING && c->in[0].len >= 8 ? (int64_t)hisproat_number(c->in[0].at + 6, 2) : -1;
+    const uint8_t *at = frame.at + 8;
+    size_t descriptor = at[1] == 0x53 ? 2 : 9;
+    uint8_t list = at[1 + descriptor];
+    const uint8_t *field = at + 1 + descriptor + (list == 0xC0 ? 3 : 9);
+    return at[descriptor] == HISPROAT_BEGIN && field[0] == 0x60 ? (int64_t)hisproat_number(field + 1, 2) : -1;
+}
+
+static int64_t channel_of(Bytes frame)
+{
+    return (int64_t)hisproat_number(frame.at + 6, 2);
+}
+
+/* A listener's frame went out: a Begin that has a remote-channel ties it. */
+static Change change_by_sending(Change change, const Call *c, const uint8_t *s)
+{
+    Bytes frame = c->in[0];
+    int64_t remote = remote_channel(frame);
+    if (remote < 0)
+        return change;
+    change.tied = remote;
+    change.through = channel_of(frame);
+    demand(taken_by(s, (uint32_t)change.through) >= 0, "a Begin goes out on a channel that is not taken, and ties");
+    change.handle = (uint32_t)taken_by(s, (uint32_t)change.through);
+    return change;
+}
+
+static Change change_of(const Call *c, const uint8_t *a, const uint8_t *s)
+{
+    Change change = { -1, -1, -1, -1, -1, hisproat_handle(a) };
+    int64_t incoming = c->function == ON_INCOMING && c->in[0].len >= 8 ? channel_of(c->in[0]) : -1;
     uint8_t kind = a[HISPROAT_AT_KIND], detail = a[HISPROAT_AT_DETAIL];
+    if (c->function == ON_OUTGOING && kind == HISPROAT_KIND_WROTE && s[AT_ROLE] == HISPROAT_ROLE_LISTENER)
+        return change_by_sending(change, c, s);
     if (kind == HISPROAT_KIND_CHANNEL)
         change.handle = c->number;
     if (kind == HISPROAT_KIND_CHANNEL || kind == HISPROAT_KIND_BEGAN)
@@ -694,6 +728,8 @@ static Change change_of(const Call *c, const uint8_t *a)
         change.freed = c->number;
     if (kind == HISPROAT_KIND_BEGAN || (kind == HISPROAT_KIND_FORWARD && detail == HISPROAT_BEGIN))
         change.tied = incoming;
+    if (change.tied >= 0)
+        change.through = kind == HISPROAT_KIND_BEGAN ? change.taken : remote_channel(c->in[0]);
     if (kind == HISPROAT_KIND_FORWARD && detail == HISPROAT_END)
         change.untied = incoming;
     return change;
@@ -728,23 +764,35 @@ static int is_handle(const uint8_t *s, int64_t handle)
     return 0;
 }
 
-/* Whether an event may have sent frames of a listener's, and so tied channels. */
+/* Whether an event may have sent waiting frames of a listener's, and so tied channels. Which of them went out is not foretold. */
 static int may_tie(const Call *c, const uint8_t *s)
 {
-    return s[AT_ROLE] == HISPROAT_ROLE_LISTENER && (c->function == ON_OUTGOING || waiting_frames(c).len > 0);
+    return s[AT_ROLE] == HISPROAT_ROLE_LISTENER && waiting_frames(c).len > 0;
 }
 
-/* Each channel's handle and tie, before and after. */
-static void check_channels(const Call *c, const uint8_t *a, const uint8_t *s, const uint8_t *now)
+/* Each outgoing channel's handle, before and after. */
+static void check_channels(Change change, const uint8_t *a, const uint8_t *s, const uint8_t *now)
 {
-    Change change = change_of(c, a);
     demand(change.freed < 0 || taken_by(s, (uint32_t)change.freed) == change.handle, "a channel that is freed had another handle");
     check_hand_out(a, change, s, now);
+    for (uint32_t k = 0; k <= fixed_number(s, AT_CHANNEL_MAX); k++)
+        demand(taken_by(now, k) == (change.taken == k ? (int64_t)change.handle : change.freed == k ? -1 : taken_by(s, k)), "a channel has another handle");
+}
+
+/* Each incoming channel's tie, before and after: made, replaced or ended by a frame on it, dropped with the channel through which it was made, and else as it was. */
+static void check_ties(const Call *c, Change change, const uint8_t *s, const uint8_t *now)
+{
     for (uint32_t k = 0; k <= fixed_number(s, AT_CHANNEL_MAX); k++) {
-        int64_t taken = change.taken == k ? (int64_t)change.handle : change.freed == k ? -1 : taken_by(s, k);
-        int64_t tied = change.tied == k ? (int64_t)change.handle : change.untied == k ? -1 : tied_to(s, k);
-        demand(taken_by(now, k) == taken, "a channel has another handle");
-        demand(tied_to(now, k) == tied || (may_tie(c, s) && is_handle(s, tied_to(now, k))), "a channel is tied to another handle");
+        int64_t through = tied_through(s, k), tied = tied_to(s, k);
+        if (change.tied == k) {
+            through = change.through;
+            tied = change.handle;
+        } else if (change.untied == k || (change.freed >= 0 && change.freed == through)) {
+            through = -1;
+            tied = -1;
+        }
+        int as_told = tied_through(now, k) == through && tied_to(now, k) == tied;
+        demand(as_told || (may_tie(c, s) && tied_through(now, k) >= 0 && is_handle(s, tied_to(now, k))), "a channel is tied otherwise");
     }
 }
 
@@ -806,9 +854,14 @@ static void check_event(const Round *r, const Call *c, const uint8_t *s)
     check_error_path(r);
     if (!c->whole)
         return;
-    demand(are_shared(now), "the tables are not as an engine leaves them any more");
-    check_channels(c, a, s, now);
+    Change change = change_of(c, a, s);
+    demand(are_shared(now), "the channel numbers are not as an engine leaves them any more");
+    check_channels(change, a, s, now);
     check_forward(c, a, s);
+    if (!c->tied)
+        return;
+    demand(are_tied(now), "the ties are not as an engine leaves them any more");
+    check_ties(c, change, s, now);
 }
 
 /* A reader's answer, byte for byte from the state's bytes, whoever wrote them. */
@@ -842,7 +895,7 @@ static void check_new(const Round *r, const Call *c)
     demand(s[AT_HAS_IDLE] == (c->flag != 0) && (!c->flag || fixed_number(s, AT_IDLE) == c->idle), "another idle-time-out");
     demand(fixed_number(s, AT_ID_LENGTH) == c->in[0].len && memcmp(s + AT_ID, c->in[0].at, c->in[0].len) == 0, "another container-id");
     for (uint32_t k = 0; k <= c->channel_max; k++)
-        demand(taken_by(s, k) < 0 && tied_to(s, k) < 0, "a new engine has a channel");
+        demand(taken_by(s, k) < 0 && tied_to(s, k) < 0 && field_of(s, k, FIRST) == 0, "a new engine has a channel");
 }
 
 /* What is checked of the lent bytes, of both calls. `before` are the bytes that the state had. */
@@ -951,6 +1004,7 @@ static void make(World *w, Call c)
     c.answer_len = w->odd & 4 ? w->lengths[2] % 64 : ABOUT[c.function].answer_size + w->calls % 3;
     c.sound = stands(m->state, c.state_len);
     c.whole = c.sound && are_shared(m->state);
+    c.tied = c.whole && are_tied(m->state);
     w->calls += 1;
     current = &c;
     lend_all(&first, &c, m->state, 0);

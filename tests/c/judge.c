@@ -146,7 +146,12 @@ int64_t taken_by(const uint8_t *s, uint32_t channel)
 
 int64_t tied_to(const uint8_t *s, uint32_t channel)
 {
-    return channel <= fixed_number(s, AT_CHANNEL_MAX) && field_of(s, channel, TIED) != 0 ? (int64_t)field_of(s, channel, TIED_HANDLE) : -1;
+    return tied_through(s, channel) >= 0 ? (int64_t)field_of(s, channel, TIED_HANDLE) : -1;
+}
+
+int64_t tied_through(const uint8_t *s, uint32_t channel)
+{
+    return channel <= fixed_number(s, AT_CHANNEL_MAX) ? (int64_t)field_of(s, channel, TIED_THROUGH) - 1 : -1;
 }
 
 int64_t first_free(const uint8_t *s)
@@ -194,4 +199,34 @@ int are_shared(const uint8_t *s)
         if (times[k] == (taken_by(s, k) >= 0))
             return 0;
     return 1;
+}
+
+/* Goes along the list of an outgoing channel. Each channel in it must be tied through this one to its handle, and be linked back to the one before. Returns how many
+ * there are, or -1 where something is wrong. No channel stands in a list twice: the one before it would have to be two. */
+static int64_t listed(const uint8_t *s, uint32_t outgoing)
+{
+    uint32_t most = fixed_number(s, AT_CHANNEL_MAX), previous = 0, next = field_of(s, outgoing, FIRST);
+    int64_t count = 0;
+    while (next != 0) {
+        uint32_t k = next - 1;
+        if (k > most || count > most || tied_through(s, k) != outgoing || field_of(s, k, PREVIOUS) != previous || tied_to(s, k) != taken_by(s, outgoing))
+            return -1;
+        count += 1;
+        previous = next;
+        next = field_of(s, k, NEXT);
+    }
+    return count;
+}
+
+int are_tied(const uint8_t *s)
+{
+    int64_t ties = 0, in_lists = 0;
+    for (uint32_t k = 0; k <= fixed_number(s, AT_CHANNEL_MAX); k++) {
+        int64_t count = listed(s, k);
+        if (count < 0)
+            return 0;
+        in_lists += count;
+        ties += tied_through(s, k) >= 0;
+    }
+    return ties == in_lists;
 }

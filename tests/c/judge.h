@@ -31,8 +31,10 @@ enum {
     AT_TABLES = HISPROAT_FIXED_SIZE
 };
 
-/* The fields of a place, 4 bytes each: of the outgoing channel of its number, and of the incoming one. */
-enum { LINK = 0, HANDLE = 1, TIED = 3, TIED_HANDLE = 4, FIELDS = 7 };
+/* The fields of a place, 4 bytes each: of the outgoing channel of its number its link, its handle and the first incoming channel that is tied through it; of the incoming one
+ * the outgoing channel through which it is tied, the handle, and the next and the previous channel in the list of the outgoing one. In FIRST, TIED_THROUGH, NEXT and PREVIOUS a
+ * channel is one more than its number, and 0 is none. */
+enum { LINK = 0, HANDLE = 1, FIRST = 2, TIED_THROUGH = 3, TIED_HANDLE = 4, NEXT = 5, PREVIOUS = 6, FIELDS = 7 };
 
 /* The link of a number that is taken, and the most channels that there are. */
 enum { TAKEN_LINK = 65536, MOST_CHANNELS = 65536 };
@@ -57,6 +59,9 @@ void put_field(uint8_t *state, uint32_t channel, unsigned field, uint32_t number
 int64_t taken_by(const uint8_t *state, uint32_t channel);
 int64_t tied_to(const uint8_t *state, uint32_t channel);
 
+/* The outgoing channel through which an incoming one is tied, or -1 where it is not tied. */
+int64_t tied_through(const uint8_t *state, uint32_t channel);
+
 /* The first number to be handed out, or -1 for none. */
 int64_t first_free(const uint8_t *state);
 
@@ -65,5 +70,8 @@ int64_t hand_out_list(const uint8_t *state, uint16_t list[MOST_CHANNELS]);
 
 /* Whether the tables are as the engine leaves them: the free numbers and the taken ones are together 0 to the agreed channel-max, each once. */
 int are_shared(const uint8_t *state);
+
+/* Whether the ties are as the engine leaves them: each names a taken channel and has its handle, stands once in the list of this channel, and nothing else stands in a list. */
+int are_tied(const uint8_t *state);
 
 #endif

@@ -1,6 +1,7 @@
 /*
  * Connections with 65,536 channels: each is taken, begun, used in both directions, ended and freed, in another order each time, and the order in which they are handed out
- * is compared with a plain list. The states have 1.8 MB, so a call's bytes are not compared as a whole; the tables are looked through now and then.
+ * is compared with a plain list. Then every incoming channel is tied through one outgoing channel, and through as many, and the ties are dropped. The states have 1.8 MB, so a
+ * call's bytes are not compared as a whole; the tables are looked through now and then.
  */
 #include "rig.h"
 
@@ -93,6 +94,7 @@ static void stands_with(End *e, uint32_t taken, const char *what)
     uint8_t refused = hisproat_status(e->state, e->len, told, sizeof told);
     need(e, refused == 0 && hisproat_number(told + HISPROAT_STATUS_AT_TAKEN, 4) == taken && hisproat_number(told + HISPROAT_STATUS_AT_CHANNEL_MAX, 2) == TOP, what);
     need(e, stands(e->state, e->len) && are_shared(e->state) && e->free_count == COUNT - taken, "free and taken channels are together all, each once");
+    need(e, are_tied(e->state), "each tie stands in the list of its channel");
 }
 
 /* ---- Two ends that know each other */
@@ -191,11 +193,11 @@ static void end_all(End *pad, End *hub, uint32_t step)
             came(hub, frame(from, END), 0, HISPROAT_KIND_FORWARD, HUB_HANDLE + i, "reaches the hub's session");
             need(hub, handle_by(hub, 1, from) == -1, "and unties its channel");
         }
-        frees(hub, (uint16_t)i, HUB_HANDLE + i);
         if (begun) {
             goes(hub, frame((uint16_t)i, END), "an End of the hub");
             came(pad, frame((uint16_t)i, END), 0, HISPROAT_KIND_FORWARD, PAD_HANDLE + from, "reaches the pad's session");
         }
+        frees(hub, (uint16_t)i, HUB_HANDLE + i);
         frees(pad, from, PAD_HANDLE + from);
         if (n % 8192 == 4321) {
             stands_with(pad, TOP - n, "so many of the pad's channels are taken");
@@ -239,6 +241,64 @@ static void far_end(End *hub)
     need(hub, kind_of(hub) == HISPROAT_KIND_REFUSED && hub->answer[HISPROAT_AT_DETAIL] == HISPROAT_REFUSED_NOT_FOUND, "a channel that is tied no more");
 }
 
+/* How many incoming channels are tied; each of them to this handle. */
+static uint32_t tied_count(End *e, uint32_t handle)
+{
+    uint32_t count = 0;
+    for (uint32_t k = 0; k < COUNT; k++) {
+        int64_t tied = handle_by(e, 1, (uint16_t)k);
+        need(e, tied == -1 || tied == handle, "a tie to another handle");
+        count += tied >= 0;
+    }
+    return count;
+}
+
+/* All incoming channels are tied through one outgoing channel. Some of these ties end, and the others are dropped at once. */
+static void ties_through_one(End *e, uint32_t step)
+{
+    uint16_t other = takes(e, 8), channel = takes(e, 7);
+    uint32_t ties = 0;
+    for (uint32_t n = 0; n < COUNT; n += step, ties++)
+        came(e, begin_for(mixed(n, 40503), channel), 0, HISPROAT_KIND_FORWARD, 7, "a tie more through one channel");
+    need(e, tied_count(e, 7) == ties, "so many ties through one channel");
+    for (uint32_t n = 0; n < COUNT; n += 3 * step, ties--)
+        came(e, frame(mixed(n, 40503), END), 0, HISPROAT_KIND_FORWARD, 7, "a tie less");
+    stands_with(e, 2, "two channels are taken");
+    need(e, tied_count(e, 7) == ties, "so many ties are left");
+    frees(e, other, 8);
+    need(e, tied_count(e, 7) == ties, "another channel has none of them");
+    frees(e, channel, 7);
+    need(e, tied_count(e, 7) == 0, "one call drops them all");
+    stands_with(e, 0, "no channel is taken");
+    need(e, takes(e, 9) == channel && tied_count(e, 9) == 0, "the channel given anew has none");
+    frees(e, channel, 9);
+}
+
+/* Each incoming channel is tied through an outgoing channel of its own, and all to one handle. Each channel that is freed drops its own tie alone. */
+static void ties_through_all(End *e, uint32_t step)
+{
+    uint32_t ties = 0;
+    for (uint32_t n = 0; n < COUNT; n++)
+        takes(e, 7);
+    for (uint32_t n = 0; n < COUNT; n += step, ties++)
+        came(e, begin_for(mixed(n, 30001), (uint16_t)n), 0, HISPROAT_KIND_FORWARD, 7, "a tie through a channel of its own");
+    need(e, tied_count(e, 7) == ties, "so many ties through as many channels");
+    for (uint32_t n = 0; n < COUNT; n++) {
+        uint16_t channel = mixed(n, 51217), own = mixed(channel, 30001);
+        int is_tied = channel % step == 0;
+        need(e, handle_by(e, 1, own) == (is_tied ? 7 : -1), "a tie stands until its channel is freed");
+        frees(e, channel, 7);
+        need(e, handle_by(e, 1, own) == -1, "and goes with it");
+        ties -= (uint32_t)is_tied;
+        if (n % 16384 == 5000) {
+            need(e, tied_count(e, 7) == ties, "and no other goes");
+            stands_with(e, TOP - n, "so many channels are taken");
+        }
+    }
+    stands_with(e, 0, "no channel is taken");
+    need(e, tied_count(e, 7) == 0, "and no tie is left");
+}
+
 void many_channels(Tally *t, int all)
 {
     uint32_t step = all ? 1 : 256;
@@ -256,4 +316,10 @@ void many_channels(Tally *t, int all)
     far_end(hub);
     drop_end(pad);
     drop_end(hub);
+    for (int is_listener = 0; is_listener < 2; is_listener++) {
+        End *end = new_end(t, is_listener);
+        ties_through_one(end, all ? 1 : 16);
+        ties_through_all(end, all ? 1 : 16);
+        drop_end(end);
+    }
 }

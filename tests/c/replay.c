@@ -196,15 +196,15 @@ static void stands(struct run *run, char *words[MOST_WORDS])
             fail(run, "another status");
 }
 
-/* taken CHANNEL HANDLE, tied CHANNEL HANDLE */
-static void holds(struct run *run, char *words[MOST_WORDS])
+/* taken CHANNEL HANDLE, tied CHANNEL HANDLE; dropped CHANNEL: the Rust alone has a tie, whose outgoing channel was freed */
+static void holds(struct run *run, char *words[MOST_WORDS], int is_held)
 {
     uint8_t found[HISPROAT_HANDLE_SIZE];
     uint16_t channel = (uint16_t)number(words[1]);
     uint8_t refused = strcmp(words[0], "taken") == 0 ? hisproat_handle_at(run->state, run->state_length, channel, found, sizeof found)
                                                      : hisproat_tied_handle(run->state, run->state_length, channel, found, sizeof found);
-    if (refused != 0 || found[HISPROAT_HANDLE_AT_FOUND] != 1 ||
-        hisproat_number(found + HISPROAT_HANDLE_AT_NUMBER, 4) != number(words[2]))
+    if (refused != 0 || found[HISPROAT_HANDLE_AT_FOUND] != is_held ||
+        (is_held && hisproat_number(found + HISPROAT_HANDLE_AT_NUMBER, 4) != number(words[2])))
         fail(run, "another handle");
 }
 
@@ -225,7 +225,9 @@ static void line(struct run *run, char *words[MOST_WORDS], size_t count)
     else if (strcmp(first, "at") == 0 && count == 9)
         stands(run, words);
     else if ((strcmp(first, "taken") == 0 || strcmp(first, "tied") == 0) && count == 3)
-        holds(run, words);
+        holds(run, words, 1);
+    else if (strcmp(first, "dropped") == 0 && count == 2)
+        holds(run, words, 0);
     else
         fail(run, "a line that is not understood");
 }

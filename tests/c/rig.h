@@ -231,6 +231,10 @@ void state_bytes(Tally *tally, int all);
 void fresh_tables(Tally *tally);
 void altered_tables(Tally *tally, int all);
 
+/* ties, and what becomes of them when channels are freed; and long lists of such calls beside a model of them */
+void ties(Tally *tally);
+void tie_walks(Tally *tally, int all);
+
 /* connections with 65,536 channels */
 void many_channels(Tally *tally, int all);
 

@@ -1,7 +1,7 @@
 /*
  * What a call through C costs.
- *   speed                               a line for each operation: its name, how many sessions there are, nanoseconds, bytes of stack
- *   speed OPERATION SESSIONS ROUNDS     does so many rounds and prints nothing: for a tool that counts instructions
+ *   speed                               a line for each operation: its name, how many sessions or ties there are, nanoseconds, bytes of stack
+ *   speed OPERATION COUNT ROUNDS        does so many rounds with so many sessions or ties and prints nothing: for a tool that counts instructions
  *   speed stack                         the most bytes of stack that any of the operations was seen to use
  * bin/speed makes a table of the first two. The tables of the state are those of 65,536 channels in each case. A round is one call:
  *   transfer    a Transfer that comes, on the highest channel that has a session
@@ -11,7 +11,12 @@
  *   fault       a frame for no session, which is answered with a Close
  *   deep        the call that is known to use the most stack: a close order with an error, while a Begin waits whose last field is an array in an array and so on, down
  *               to the sixteenth level
- * Each round of `allocate`, `deallocate`, `fault` and `deep` begins by putting back what such a call changes of the state.
+ * Of so many ties all are through one outgoing channel, in one list, but the one that the call is about, on the channel in the middle. It is
+ *   tie         made by a Begin, the last of them
+ *   retie       replaced by a Begin for the other of two outgoing channels, which are taken in turn
+ *   untie       ended by an End
+ *   free        dropped when its outgoing channel is freed, which has this tie alone
+ * Each round of `allocate`, `deallocate`, `fault`, `deep`, `tie`, `untie` and `free` begins by putting back what such a call changes of the state.
  */
 #define _POSIX_C_SOURCE 200809L
 
@@ -23,13 +28,17 @@
 #include <string.h>
 #include <time.h>
 
-enum { MOST_WAITING = 256, CHANNEL_MAX = 65535, MOVING_AT = 16, MOVING_SIZE = 26 }; /* of a state's fixed part only the moving bytes ever change */
+enum { MOST_WAITING = 256, CHANNEL_MAX = 65535, NEAR = 6, MOVING_AT = 16, MOVING_SIZE = 26 }; /* of a state's fixed part only the moving bytes ever change */
 
 typedef struct {
     uint8_t state[HISPROAT_STATE_SIZE(CHANNEL_MAX)];
     uint8_t set_up[MOVING_SIZE];        /* the moving bytes as they were set up */
     uint8_t place[HISPROAT_PLACE_SIZE]; /* the place of the highest channel as it was set up */
     unsigned highest;                   /* the highest channel that has a session */
+    uint16_t tied;                      /* of ties: the channel in the middle, */
+    uint32_t near[NEAR];                /* the places that change with its tie, */
+    uint8_t nearby[NEAR][HISPROAT_PLACE_SIZE]; /* and what they were as set up */
+    unsigned turn;
     uint8_t waiting[MOST_WAITING];
     uint8_t output[HISPROAT_OUTPUT_ROOM + 2 * MOST_WAITING];
     uint8_t answer[HISPROAT_ANSWER_SIZE];
@@ -47,9 +56,14 @@ static uint8_t nothing(Work *w)
     return 0;
 }
 
+static uint8_t *place_of(Work *w, uint32_t channel)
+{
+    return w->state + HISPROAT_FIXED_SIZE + (size_t)HISPROAT_PLACE_SIZE * channel;
+}
+
 static uint8_t *highest_place(Work *w)
 {
-    return w->state + HISPROAT_FIXED_SIZE + (size_t)HISPROAT_PLACE_SIZE * w->highest;
+    return place_of(w, w->highest);
 }
 
 static void put_back(Work *w)
@@ -131,21 +145,73 @@ static uint8_t deep(Work *w)
                                         sizeof w->output, w->answer, sizeof w->answer);
 }
 
+/* ---- The operations on ties. The outgoing channel ONE has all ties but that of `tied`; OTHER has that one, or none. */
+
+enum { ONE = 0, OTHER = 1 };
+
+static void put_ties_back(Work *w)
+{
+    put_back(w);
+    for (unsigned i = 0; i < NEAR; i++)
+        memcpy(place_of(w, w->near[i]), w->nearby[i], HISPROAT_PLACE_SIZE);
+}
+
+static uint8_t begin_for(Work *w, uint16_t channel, uint16_t outgoing)
+{
+    uint8_t frame[] = { 0,    0,    0,    0x16, 2,    0, (uint8_t)(channel >> 8), (uint8_t)channel, 0x00, 0x53, 0x11, 0xC0, 0x09,
+                        0x04, 0x60, (uint8_t)(outgoing >> 8), (uint8_t)outgoing, 0x43, 0x52, 100, 0x52, 100 };
+    uint8_t refused = frame_in(w, frame, sizeof frame);
+    return refused ? refused : w->answer[HISPROAT_AT_KIND] != HISPROAT_KIND_FORWARD;
+}
+
+static uint8_t tie(Work *w)
+{
+    put_ties_back(w);
+    return begin_for(w, w->tied, ONE);
+}
+
+static uint8_t retie(Work *w)
+{
+    w->turn += 1;
+    return begin_for(w, w->tied, w->turn % 2 ? OTHER : ONE);
+}
+
+static uint8_t untie(Work *w)
+{
+    const uint8_t frame[] = { 0, 0, 0, 0x0C, 2, 0, (uint8_t)(w->tied >> 8), (uint8_t)w->tied, 0x00, 0x53, 0x17, 0x45 };
+    put_ties_back(w);
+    uint8_t refused = frame_in(w, frame, sizeof frame);
+    return refused ? refused : w->answer[HISPROAT_AT_KIND] != HISPROAT_KIND_FORWARD;
+}
+
+static uint8_t free_tied(Work *w)
+{
+    put_ties_back(w);
+    return hisproat_on_deallocate(w->state, sizeof w->state, OTHER, w->answer, sizeof w->answer);
+}
+
 static uint8_t status(Work *w)
 {
     return hisproat_status(w->state, sizeof w->state, w->answer, sizeof w->answer);
 }
 
+/* What is set up for an operation: sessions; or ties, where that of the channel in the middle is still to be made, is in the list of ONE, or is OTHER's. */
+typedef enum { SESSIONS, TIE_TO_COME, TIE_IN_LIST, TIE_APART } Setting;
+
 static const struct {
     const char *name;
     Round *round;
-} OPERATIONS[] = { { "transfer", transfer }, { "tick", tick },   { "allocate", allocate }, { "deallocate", deallocate },
-                   { "pair", pair },         { "fault", fault }, { "deep", deep },         { "status", status },
-                   { "new", new } };
+    Setting setting;
+} OPERATIONS[] = {
+    { "transfer", transfer, SESSIONS }, { "tick", tick, SESSIONS },   { "allocate", allocate, SESSIONS }, { "deallocate", deallocate, SESSIONS },
+    { "pair", pair, SESSIONS },         { "fault", fault, SESSIONS }, { "deep", deep, SESSIONS },         { "status", status, SESSIONS },
+    { "new", new, SESSIONS },           { "tie", tie, TIE_TO_COME },  { "retie", retie, TIE_IN_LIST },    { "untie", untie, TIE_IN_LIST },
+    { "free", free_tied, TIE_APART },
+};
 
 enum { COUNT = sizeof OPERATIONS / sizeof OPERATIONS[0] };
 
-/* ---- A listener with so many sessions, the first of them on channel 0. The last channel is left free. */
+/* ---- What the operations begin with */
 
 static void need(uint8_t refused, const char *what)
 {
@@ -155,15 +221,21 @@ static void need(uint8_t refused, const char *what)
     }
 }
 
-static void set_up(Work *w, unsigned sessions)
+static void open_listener(Work *w)
 {
     static const uint8_t open[] = { 0, 0, 0, 0x11, 2, 0, 0, 0, 0x00, 0x53, 0x10, 0xC0, 0x04, 0x01, 0xA1, 1, 'p' };
-    uint8_t begin[] = { 0, 0, 0, 0x14, 2, 0, 0, 0, 0x00, 0x53, 0x11, 0xC0, 0x07, 0x04, 0x40, 0x43, 0x52, 100, 0x52, 100 };
     need(hisproat_listener(w->state, sizeof w->state, (const uint8_t *)"hub", 3, 16384, CHANNEL_MAX, 1, 30000), "settings");
     need(hisproat_receive_header(w->state, sizeof w->state, (const uint8_t *)"AMQP\0\1\0\0", 8, w->answer, sizeof w->answer), "header");
     need(hisproat_send_header(w->state, sizeof w->state, w->output, sizeof w->output, w->answer, sizeof w->answer), "header");
     need(frame_in(w, open, sizeof open), "Open");
     need(hisproat_send_open(w->state, sizeof w->state, w->output, sizeof w->output, w->answer, sizeof w->answer), "Open");
+}
+
+/* A listener with so many sessions, the first of them on channel 0. The last channel is left free. */
+static void set_up_sessions(Work *w, unsigned sessions)
+{
+    uint8_t begin[] = { 0, 0, 0, 0x14, 2, 0, 0, 0, 0x00, 0x53, 0x11, 0xC0, 0x07, 0x04, 0x40, 0x43, 0x52, 100, 0x52, 100 };
+    open_listener(w);
     for (unsigned i = 0; i < sessions; i++) {
         begin[6] = (uint8_t)(i >> 8);
         begin[7] = (uint8_t)i;
@@ -172,6 +244,33 @@ static void set_up(Work *w, unsigned sessions)
     w->highest = sessions - 1;
     memcpy(w->set_up, w->state + MOVING_AT, sizeof w->set_up);
     memcpy(w->place, highest_place(w), sizeof w->place);
+}
+
+/* A listener with so many ties, on the channels from 0 on. A channel that is tied comes first in its list, so beside `tied` stand the one above and the one below. */
+static void set_up_ties(Work *w, unsigned ties, Setting setting)
+{
+    open_listener(w);
+    for (uint32_t handle = ONE; handle <= OTHER; handle++)
+        need(hisproat_on_allocate(w->state, sizeof w->state, handle, w->answer, sizeof w->answer), "a channel");
+    w->tied = (uint16_t)((ties - 1) / 2);
+    w->turn = 0;
+    for (unsigned i = 0; i < ties; i++)
+        if (i != w->tied || setting != TIE_TO_COME)
+            need(begin_for(w, (uint16_t)i, i == w->tied && setting == TIE_APART ? OTHER : ONE), "a tie");
+    memcpy(w->set_up, w->state + MOVING_AT, sizeof w->set_up);
+    const uint32_t near[NEAR] = { w->tied, ONE, OTHER, w->tied > 0 ? w->tied - 1u : 0, w->tied < CHANNEL_MAX ? w->tied + 1u : 0, ties - 1 };
+    for (unsigned i = 0; i < NEAR; i++) {
+        w->near[i] = near[i];
+        memcpy(w->nearby[i], place_of(w, near[i]), HISPROAT_PLACE_SIZE);
+    }
+}
+
+static void set_up(Work *w, size_t operation, unsigned count)
+{
+    if (OPERATIONS[operation].setting == SESSIONS)
+        set_up_sessions(w, count);
+    else
+        set_up_ties(w, count, OPERATIONS[operation].setting);
 }
 
 /* ---- Measuring */
@@ -244,13 +343,15 @@ static size_t stack_of(Round *round, Work *w)
 
 static void measure_all(void)
 {
-    static const unsigned SESSIONS[] = { 1, 255, 65535 };
+    enum { COUNTS = 3 };
+    static const unsigned OF_SESSIONS[COUNTS] = { 1, 255, 65535 }, OF_TIES[COUNTS] = { 1, 256, 65536 };
     static Work w;
     for (size_t i = 0; i < COUNT; i++)
-        for (size_t j = 0; j < sizeof SESSIONS / sizeof SESSIONS[0]; j++) {
-            set_up(&w, SESSIONS[j]);
+        for (size_t j = 0; j < COUNTS; j++) {
+            unsigned count = (OPERATIONS[i].setting == SESSIONS ? OF_SESSIONS : OF_TIES)[j];
+            set_up(&w, i, count);
             size_t stack = stack_of(OPERATIONS[i].round, &w);
-            printf("%s %u %.0f %zu\n", OPERATIONS[i].name, SESSIONS[j], nanoseconds(OPERATIONS[i].round, &w), stack);
+            printf("%s %u %.0f %zu\n", OPERATIONS[i].name, count, nanoseconds(OPERATIONS[i].round, &w), stack);
         }
 }
 
@@ -259,7 +360,7 @@ static size_t most_stack(void)
     static Work w;
     size_t most = 0;
     for (size_t i = 0; i < COUNT; i++) {
-        set_up(&w, 1);
+        set_up(&w, i, 1);
         size_t stack = stack_of(OPERATIONS[i].round, &w);
         most = stack > most ? stack : most;
     }
@@ -279,10 +380,10 @@ int main(int argc, char **argv)
     }
     for (size_t i = 0; argc == 4 && i < COUNT; i++)
         if (strcmp(argv[1], OPERATIONS[i].name) == 0) {
-            set_up(&w, (unsigned)strtoul(argv[2], NULL, 10));
+            set_up(&w, i, (unsigned)strtoul(argv[2], NULL, 10));
             rounds(OPERATIONS[i].round, &w, strtoul(argv[3], NULL, 10));
             return 0;
         }
-    fprintf(stderr, "usage: speed [stack | OPERATION SESSIONS ROUNDS]\n");
+    fprintf(stderr, "usage: speed [stack | OPERATION COUNT ROUNDS]\n");
     return 2;
 }

@@ -3,14 +3,15 @@
 use mathlib.Core.Path.{_≡_, refl, sym, _∙_, ap}
 use mathlib.Core.Bool.{Bool, true, false}
 use mathlib.Core.List.{List}
-use Prim.Native.Nat.{ℕ, suc, _+_, _*_, _<_}
+use Prim.Native.Nat.{ℕ, suc, _+_, _*_, _≤_, _<_}
 use native.Mathlib.Omega.{arith}
 use native.Mathlib.Decide.{decLe}
 use lib.Dec.{leb}
 use lib.ListN.{length}
+use borrow.Author.Tests.{lt-ltb, le-ltb}
 use Rattle.channels.specs.Places.{Covers, covers, field, write, put, past}
 use Rattle.channels.proofs.Words.{length-store, word-same, word-other, past-store}
-use Rattle.channels.proofs.Kept.{covers-is, covers-not, covers-true, covers-false}
+use Rattle.channels.proofs.Kept.{covers-true, covers-false}
 
 -- ---- the test of a place
 
@@ -56,39 +57,40 @@ past-write s k f x n l m = past-store s (7 * k + f) x (28 * n) (omega arith)
 
 -- ---- put
 
-pub put-there : (s : List ℕ) (k f x : ℕ) → Covers (suc k) s → write s k f x ≡ put s k f x
-unfolding put
-put-there s k f x c = rw (covers-is (suc k) s c)
+module _ (n : ℕ) (s : List ℕ) (k f x : ℕ) where
+  put-there : k < n → write s k f x ≡ put n s k f x
+  unfolding put
+  put-there l = rw (lt-ltb k n l)
 
-pub put-nowhere : (s : List ℕ) (k f x : ℕ) → (Covers (suc k) s → ⊥) → s ≡ put s k f x
-unfolding put
-put-nowhere s k f x c = rw (covers-not (suc k) s c)
+  put-beyond : n ≤ k → s ≡ put n s k f x
+  unfolding put
+  put-beyond l = rw (le-ltb k n l)
 
--- what holds of the tables and of the tables with the field written holds of either
-put-either : (P : List ℕ → Type 0) (s : List ℕ) (k f x : ℕ) → P s → P (write s k f x) → P (put s k f x)
-put-either P s k f x a b = elim (decLe (28 * suc k) (length s)) [
-  | yes l ↦ rw (← put-there s k f x l) b
-  | no l ↦ rw (← put-nowhere s k f x l) a
-]
+  -- what holds of the tables and of the tables with the field written holds of either
+  put-either : (P : List ℕ → Type 0) → P s → (k < n → P (write s k f x)) → P (put n s k f x)
+  put-either P a b = elim (decLe n k) [
+    | yes l ↦ rw (← put-beyond l) a
+    | no l ↦ let m : k < n = omega arith in rw (← put-there m) (b m)
+  ]
 
-pub length-put : (s : List ℕ) (k f x : ℕ) → length (put s k f x) ≡ length s
-length-put s k f x = put-either (λ t. length t ≡ length s) s k f x refl (length-write s k f x)
+  pub length-put : length (put n s k f x) ≡ length s
+  length-put = put-either (λ t. length t ≡ length s) refl (λ l. length-write s k f x)
 
-pub put-same : (s : List ℕ) (k f x : ℕ) → Covers (suc k) s → f < 7 → field (put s k f x) k f ≡ x
-put-same s k f x c l = rw (← put-there s k f x c) (field-same s k f x c l)
+  pub put-same : Covers n s → k < n → f < 7 → field (put n s k f x) k f ≡ x
+  put-same c l m = rw (← put-there l) (field-same s k f x (omega arith) m)
 
-pub put-beside : (s : List ℕ) (k f x j g : ℕ) → f < 7 → g < 7 → (f ≡ g → ⊥) → field (put s k f x) j g ≡ field s j g
-put-beside s k f x j g a b h = put-either (λ t. field t j g ≡ field s j g) s k f x refl (field-beside s k f x j g a b h)
+  pub put-beside : (j g : ℕ) → f < 7 → g < 7 → (f ≡ g → ⊥) → field (put n s k f x) j g ≡ field s j g
+  put-beside j g a b h = put-either (λ t. field t j g ≡ field s j g) refl (λ l. field-beside s k f x j g a b h)
 
-pub put-apart : (s : List ℕ) (k f x j g : ℕ) → f < 7 → g < 7 → (k ≡ j → ⊥) → field (put s k f x) j g ≡ field s j g
-put-apart s k f x j g a b h = put-either (λ t. field t j g ≡ field s j g) s k f x refl (field-apart s k f x j g a b h)
+  pub put-apart : (j g : ℕ) → f < 7 → g < 7 → (k ≡ j → ⊥) → field (put n s k f x) j g ≡ field s j g
+  put-apart j g a b h = put-either (λ t. field t j g ≡ field s j g) refl (λ l. field-apart s k f x j g a b h)
 
-pub past-put : (s : List ℕ) (k f x n : ℕ) → f < 7 → k < n → past n (put s k f x) ≡ past n s
-past-put s k f x n l m = put-either (λ t. past n t ≡ past n s) s k f x refl (past-write s k f x n l m)
+  pub past-put : (m : ℕ) → f < 7 → n ≤ m → past m (put n s k f x) ≡ past m s
+  past-put m l q = put-either (λ t. past m t ≡ past m s) refl (λ r. past-write s k f x m l (omega arith))
 
--- the function's two returns
-pub puts : (s : List ℕ) (k f x : ℕ) (b : Bool) → b ≡ hasPlace s k → b ≡ true → (s′ : List ℕ) → s′ ≡ write s k f x → s′ ≡ put s k f x
-puts s k f x b t e s′ q = q ∙ put-there s k f x (has-true s k b t e)
+  -- the function's two returns
+  pub puts-not : (top : ℕ) → n ≡ suc top → top < k → s ≡ put n s k f x
+  puts-not top e l = put-beyond (omega arith)
 
-pub puts-not : (s : List ℕ) (k f x : ℕ) (b : Bool) → b ≡ hasPlace s k → b ≡ false → s ≡ put s k f x
-puts-not s k f x b t e = put-nowhere s k f x (has-false s k b t e)
+  pub puts : (top : ℕ) → n ≡ suc top → k ≤ top → (s′ : List ℕ) → s′ ≡ write s k f x → s′ ≡ put n s k f x
+  puts top e l s′ q = q ∙ put-there (omega arith)

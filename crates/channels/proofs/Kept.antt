@@ -1,6 +1,6 @@
 -- What a call on one part of the tables keeps of the other, and the test of enough places.
 -- Assumes nothing.
-use mathlib.Core.Path.{_≡_, refl, ap, fun-ext}
+use mathlib.Core.Path.{_≡_, refl, sym, _∙_, ap, fun-ext}
 use mathlib.Core.Bool.{true, false}
 use mathlib.Core.List.{List, _∷_}
 use Prim.Native.Nat.{ℕ, zero, suc, _*_, _≤_}
@@ -9,9 +9,12 @@ use native.Mathlib.Decide.{decLe}
 use lib.ListN.{length}
 use borrow.Author.Tests.{le-leb, lt-leb}
 use Rattle.channels.specs.Places.{Covers, covers, field, Keeps}
+use Rattle.channels.specs.Numbers.{one}
+use Rattle.channels.specs.Ties.{through}
 use Rattle.channels.specs.Channels.{chain, handOutSays, takenSays, Sound}
-use Rattle.channels.specs.Ties.{tiesSays}
+use Rattle.channels.specs.Lists.{tiesSays, Listed}
 use Rattle.channels.specs.declared.OutgoingChannels.{OutgoingChannels}
+use Rattle.channels.proofs.Lists.{same-right}
 
 -- ---- enough places
 
@@ -48,7 +51,7 @@ abbrev pub KeepsTies : OutgoingChannels → List ℕ → List ℕ → Type 0
 KeepsTies t s s′ = Keeps 2 7 (suc (t .highest)) s s′
 
 abbrev pub KeepsNumbers : ℕ → List ℕ → List ℕ → Type 0
-KeepsNumbers n s s′ = Keeps 0 3 n s s′
+KeepsNumbers n s s′ = Keeps 0 2 n s s′
 
 pub ties-same : (t : OutgoingChannels) (s : List ℕ) → KeepsTies t s s
 ties-same t s = record { long = refl; same = λ k f m l. refl; rest = λ n l. refl }
@@ -59,6 +62,19 @@ numbers-same n s = record { long = refl; same = λ k f m l. refl; rest = λ m l.
 pub ties-kept : (n : ℕ) (t : OutgoingChannels) (s s′ : List ℕ) → KeepsTies t s s′ → tiesSays n s′ ≡ tiesSays n s
 unfolding tiesSays
 ties-kept n t s s′ k = fun-ext (λ j. rw (k .same j 3 (omega arith) (omega arith), k .same j 4 (omega arith) (omega arith)))
+
+pub listed-kept : (n : ℕ) (t : OutgoingChannels) (s s′ : List ℕ) → KeepsTies t s s′ → Listed n s → Listed n s′
+listed-kept n t s s′ e i = record {
+  covered = covers-kept n s s′ (e .long) (i .covered);
+  lists = i .lists;
+  agree = record {
+    linked = λ ch l.
+        rw (e .same ch 2 (omega arith) (omega arith))
+        (same-right s s′ 0 (field s ch 2) (i .lists ch) (λ k x. (e .same k 5 (omega arith) (omega arith), e .same k 6 (omega arith) (omega arith))) (i .agree .linked ch l));
+    each = λ ch k. i .agree .each ch k ∙ sym (ap (λ f. one (through ch (f k))) (ties-kept n t s s′ e));
+    low = λ k u q. i .agree .low k u (sym (ap (λ f. f k) (ties-kept n t s s′ e)) ∙ q);
+  };
+}
 
 chain-kept : (n : ℕ) (s s′ : List ℕ) → KeepsNumbers n s s′ → (k m : ℕ) → chain s′ k m ≡ chain s k m
 unfolding chain

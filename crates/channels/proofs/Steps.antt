@@ -10,7 +10,7 @@ use native.Mathlib.Decide.{decLe, ℕ-discrete}
 use lib.Dec.{ltb}
 use borrow.Author.Tests.{eq-eqb, ne-eqb, lt-ltb, le-ltb, le-leb, lt-leb}
 use Rattle.channels.specs.Places.{Covers, field}
-use Rattle.channels.specs.Numbers.{Map, with, upFrom, freedFirst, isTaken, count, Shared, takenBelow}
+use Rattle.channels.specs.Numbers.{MapTo, Map, with, upFrom, freedFirst, isTaken, count, Shared, takenBelow}
 use Rattle.channels.specs.declared.OutgoingChannels.{OutgoingChannels}
 use Rattle.channels.specs.declared.Held.{Held}
 use Rattle.channels.specs.declared.Held.the-variants.{Handle, Nothing}
@@ -42,7 +42,7 @@ module _ (self : OutgoingChannels) where
 -- ---- what taking and freeing share
 
 -- a map that differs at one number
-pub with-map : (f g : Map) (k : ℕ) (v : Option ℕ) → g k ≡ v → ((n : ℕ) → (k ≡ n → ⊥) → g n ≡ f n) → g ≡ with f k v
+pub with-map : {A : Type 0} (f g : MapTo A) (k : ℕ) (v : Option A) → g k ≡ v → ((n : ℕ) → (k ≡ n → ⊥) → g n ≡ f n) → g ≡ with f k v
 with-map f g k v e h = fun-ext (λ n. elim (ℕ-discrete k n) [
   | yes q ↦ rw (eq-eqb k n q) (ap g (sym q) ∙ e)
   | no q ↦ rw (ne-eqb k n q) (h n q)

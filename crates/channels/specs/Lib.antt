@@ -1,4 +1,6 @@
 pub mod Numbers
+pub mod Ties
 pub mod Places
 pub mod Channels
-pub mod Ties
+pub mod Lists
+pub mod Links

@@ -1,11 +1,12 @@
 -- The lent tables of a connection: for each channel number a place of 28 bytes, with seven fields, numbers of 32 bits of which the first byte counts most.
--- Of an outgoing channel: field 0, its link, and 1, its handle. Of an incoming channel: 3, whether it is tied, and 4, to which handle. Fields 2, 5 and 6 are room for lists of ties.
+-- Of an outgoing channel: field 0, its link, 1, its handle, and 2, the first incoming channel that is tied through it. Of an incoming channel: 3, the outgoing channel through which it
+-- is tied, 4, the handle, and 5 and 6, the next and the previous channel in the list of the outgoing one. Fields 2, 3, 5 and 6 have a channel as one more than its number, and 0 for none.
 -- Assumes nothing: these are definitions.
 use mathlib.Core.Path.{_≡_}
 use mathlib.Core.Bool.{Bool, cond}
 use mathlib.Core.List.{List}
 use Prim.Native.Nat.{ℕ, suc, _+_, _*_, _/_, _%_, _≤_, _<_}
-use lib.Dec.{leb}
+use lib.Dec.{leb, ltb}
 use lib.ListN.{length, getD, set, drop}
 
 -- the i-th number
@@ -30,9 +31,9 @@ field t k f = word t (7 * k + f)
 unfoldable pub write : List ℕ → ℕ → ℕ → ℕ → List ℕ
 write t k f x = store t (7 * k + f) x
 
--- the same, where there is a place for number k
-unfoldable pub put : List ℕ → ℕ → ℕ → ℕ → List ℕ
-put t k f x = cond (covers (suc k) t) (write t k f x) t
+-- the same, where k is one of the first n numbers
+unfoldable pub put : ℕ → List ℕ → ℕ → ℕ → ℕ → List ℕ
+put n t k f x = cond (ltb k n) (write t k f x) t
 
 -- what stands after the places of the first n numbers
 abbrev pub past : ℕ → List ℕ → List ℕ

@@ -1,24 +1,31 @@
--- The ties of a connection: what the lent tables stand for, and what each call promises.
+-- Ties (document 02, wish 7): what an incoming channel is tied to, and which ties are left once an outgoing channel is freed.
 -- Assumes nothing: these are definitions.
-use mathlib.Core.Path.{_≡_}
-use mathlib.Core.Bool.{cond}
-use mathlib.Core.List.{List}
+use mathlib.Core.Bool.{Bool, false, cond}
 use mathlib.Core.Option.{Option, none, some}
-use Prim.Native.Nat.{ℕ, suc, _<_}
-use lib.Dec.{ltb, eqb}
-use Rattle.channels.specs.Places.{Covers, field, Keeps}
-use Rattle.channels.specs.Numbers.{Map, nowhere, with}
+use Prim.Native.Nat.{ℕ}
+use lib.Dec.{eqb}
+use Rattle.channels.specs.Numbers.{MapTo}
 
--- what the first n incoming channels are tied to; there are no others
-unfoldable pub tiesSays : ℕ → List ℕ → Map
-tiesSays n s k = cond (ltb k n) (cond (eqb (field s k 3) 0) none (some (field s k 4))) none
+-- the outgoing channel through which the tie was made, and the handle that held it
+pub record Tie : Type 0 where
+  pub outgoing : ℕ
+  pub handle : ℕ
 
--- no channel is tied where there is a place for each
-pub record Clears (n : ℕ) (s s′ : List ℕ) : Type 0 where
-  pub clears : Covers n s → tiesSays n s′ ≡ nowhere
-  pub numbers : Keeps 0 3 n s s′
+abbrev pub tieOf : ℕ → ℕ → Tie
+tieOf ch h = record { outgoing = ch; handle = h }
 
--- a channel gets this tie, or none, where there is a place for each of n channels
-pub record Changes (k : ℕ) (v : Option ℕ) (s s′ : List ℕ) : Type 0 where
-  pub changes : (n : ℕ) → k < n → Covers n s → tiesSays n s′ ≡ with (tiesSays n s) k v
-  pub numbers : Keeps 0 3 (suc k) s s′
+-- incoming channels to ties, for those that are tied
+abbrev pub Ties : Type 0
+Ties = MapTo Tie
+
+abbrev pub handleOf : Option Tie → Option ℕ
+handleOf none = none
+handleOf (some t) = some (t .handle)
+
+abbrev pub through : ℕ → Option Tie → Bool
+through ch none = false
+through ch (some t) = eqb (t .outgoing) ch
+
+-- the ties that are left: all but those that were made through a channel
+abbrev pub dropped : ℕ → Ties → Ties
+dropped ch ties n = cond (through ch (ties n)) none (ties n)

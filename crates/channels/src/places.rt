@@ -76,12 +76,12 @@ pub(crate) fn write(t: &mut [u8], k: u32, f: usize, x: u32)
     store(t, 7 * (k as usize) + f, x);
 }
 
-// Field f of number k becomes x, where the tables have a place for k.
-pub(crate) fn put(t: &mut [u8], k: u32, f: usize, x: u32)
-    requires { ⌜ f < 7 ⌝ }
-    ensures { λ _. ⌜ now (t .exit) ≡ put (now (t .entry)) k f x ⌝ }
+// Field f of number k becomes x, where k is at most the top.
+pub(crate) fn put(t: &mut [u8], top: u32, k: u32, f: usize, x: u32)
+    requires { ⌜ Covers (suc top) (now t) × (f < 7) ⌝ }
+    ensures { λ _. ⌜ now (t .exit) ≡ put (suc top) (now (t .entry)) k f x ⌝ }
 {
-    if !has(t, k) {
+    if top < k {
         return;
     }
     write(t, k, f, x);

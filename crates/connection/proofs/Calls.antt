@@ -49,7 +49,7 @@ sound-next call w v z h e p = record {
 
 -- a sound one has a place for each channel
 pub sound-covered : (w : Whole) → Sound w → isCovered w ≡ true
-sound-covered w z = covers-is (placesOf (w .connection .endpoint)) (w .tables) (z .held .covered)
+sound-covered w z = covers-is (placesOf (w .connection .endpoint)) (w .tables) (z .held .listed .covered)
 
 pub unsound : {A : Type 0} (w : Whole) → isCovered w ≡ false → Sound w → A
 unsound w e z = not-both (sym (sound-covered w z) ∙ e)

@@ -15,7 +15,7 @@ use Rattle.connection_state.specs.declared.ConnectionState.the-variants.{Start}
 use Rattle.channels.specs.Places.{Covers, covers, past}
 use Rattle.channels.specs.Numbers.{takenBelow}
 use Rattle.channels.specs.Channels.{heldSays}
-use Rattle.channels.specs.Ties.{Clears}
+use Rattle.channels.specs.Lists.{Listed, Clears}
 use Rattle.channels.specs.declared.Held.{Held}
 use Rattle.channels.specs.declared.Held.the-variants.{Handle, Nothing}
 use Rattle.channels.proofs.Kept.{covers-true, covers-fewer}
@@ -116,18 +116,17 @@ resumed-broken x r s p q = sym (ap (resumedIn x) q) ∙ ap (resumedIn x) p
 pub resumed-holds : (x : ConnectionState) (r s : ResumedEndpoint) (e : Endpoint) → r ≡ s → r ≡ Is e → Kept.Is (record { «local_state» = x; endpoint = e }) ≡ resumedIn x s
 resumed-holds x r s e p q = sym (ap (resumedIn x) q) ∙ ap (resumedIn x) p
 
--- ---- what makes a connection sound: settings within their limits, tables and counts that are enough, and what holds of every connection
+-- ---- what makes a connection sound: settings within their limits, lists that agree with the ties, counts within their limits, and what holds of every connection
 
-pub counted-sound : (w : Whole) → allowed (settingsOf w) ≡ true → isCovered w ≡ true → Counted (w .connection .endpoint) → Reached (settingsOf w) (viewOf w) → Sound w
-counted-sound w a c k r =
+pub counted-sound : (w : Whole) → allowed (settingsOf w) ≡ true → Listed (placesOf (w .connection .endpoint)) (w .tables) → Counted (w .connection .endpoint) → Reached (settingsOf w) (viewOf w) → Sound w
+counted-sound w a l k r =
     let e = w .connection .endpoint in
-    let l : Covers (placesOf e) (w .tables) = covers-true (placesOf e) (w .tables) c in
     record {
       fine = a;
       held = record {
-        covered = l;
+        listed = l;
         most = k .1;
-        numbers = record { within = k .0; covered = covers-fewer (suc (e .outgoing .highest)) (placesOf e) (w .tables) (k .1) l; shared = shares r };
+        numbers = record { within = k .0; covered = covers-fewer (suc (e .outgoing .highest)) (placesOf e) (w .tables) (k .1) (l .covered); shared = shares r };
       };
       reached = r;
     }

@@ -35,6 +35,7 @@ use Rattle.connection_state.specs.declared.ConnectionState.{ConnectionState}
 use Rattle.connection_state.specs.declared.Moved.{Moved}
 use Rattle.connection_state.specs.declared.Moved.the-variants.{To, Illegal}
 use Rattle.connection_state.specs.Answers.{stateSays, movedSays}
+use Rattle.channels.specs.Ties.{Tie}
 use Rattle.connection_model.specs.Connection as M
 use Rattle.connection_model.specs.Connection.{Role, Answer, Outcome, receiveHeaderFrom, headed, says, stay, nothingToDo, hasError, openRead, closeRead, begun, sessionRead, performativeRead, frameRead, go, agree, header, otherProtocol, opened, closed, clamped}
 use Rattle.connection_model.proofs.Rules.{accepted, on-along, opens, and-left, true-is}
@@ -230,15 +231,15 @@ quiet-released ch none = quiet-refuse 26
 quiet-released ch (some h) = quiet-says _ _
 
 module _ (role : Role) (S : Settings) (c : M.Connection) (f : Frame) (h : ℕ) where
-  quiet-tie : (o : Option ℕ) → Quiet (M.tieTo f o)
-  quiet-tie none = quiet-refuse 24
-  quiet-tie (some k) = quiet-says _ _
+  quiet-tie : (r : ℕ) (o : Option ℕ) → Quiet (M.tieTo f r o)
+  quiet-tie r none = quiet-refuse 24
+  quiet-tie r (some k) = quiet-says _ _
 
-  quiet-untie : (o : Option ℕ) → Quiet (M.untie f o)
+  quiet-untie : (o : Option Tie) → Quiet (M.untie f o)
   quiet-untie none = quiet-refuse 24
   quiet-untie (some k) = quiet-says _ _
 
-  quiet-pass : (code : ℕ) (o : Option ℕ) → Quiet (M.passOn f code o)
+  quiet-pass : (code : ℕ) (o : Option Tie) → Quiet (M.passOn f code o)
   quiet-pass code none = quiet-refuse 24
   quiet-pass code (some k) = quiet-says _ _
 
@@ -250,7 +251,7 @@ module _ (role : Role) (S : Settings) (c : M.Connection) (f : Frame) (h : ℕ) w
 
   quiet-begun : (rs : List ℕ) → Quiet (begun role c f h rs)
   quiet-begun [] = quiet-new role (c .handOut)
-  quiet-begun (r ∷ rs) = quiet-tie (c .taken r)
+  quiet-begun (r ∷ rs) = quiet-tie r (c .taken r)
 
   quiet-open : (values : List ℕ) → Quiet (openSaid S c f values)
   quiet-open [] = quiet-refuse 6

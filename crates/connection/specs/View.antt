@@ -47,7 +47,7 @@ settingsOf w = E.settingsOf (endpointIn w)
 abbrev pub viewOf : Whole → M.Connection
 viewOf w = E.viewAs (stateSays (w .connection .«local_state»)) (endpointIn w)
 
--- a connection that can come of calls while nobody else writes what it is lent: its settings are within their limits, its tables have a place for each channel and numbers that keep their rule,
+-- a connection that can come of calls while nobody else writes what it is lent: its settings are within their limits, its tables have a place for each channel, lists that agree with the ties and numbers that keep their rule,
 -- and what holds of every connection holds of it
 pub record Sound (w : Whole) : Type 0 where
   pub fine : allowed (settingsOf w) ≡ true

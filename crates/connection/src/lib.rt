@@ -24,6 +24,7 @@ ghost use mathlib.Core.List.{List};
 ghost use Prim.Native.Nat.{ℕ};
 ghost use Rattle.frame_encoder.specs.Answers.{settings};
 ghost use Rattle.connection_state.specs.Answers.{stateSays};
+ghost use Rattle.channels.specs.Ties.{handleOf};
 ghost use Rattle.channels.specs.Channels.{agreedMaxSays, heldSays};
 ghost use Rattle.connection_model.specs.Connection as M;
 ghost use Rattle.endpoint.specs.Answers.{roleSays};
@@ -321,7 +322,7 @@ impl Connection {
 
     // The handle that an incoming channel is tied to
     pub fn tied_handle(self, tables: &[u8], channel: u16) -> HandleAnswer
-        ensures { λ r. ⌜ ((id : List ℕ) → Looks (whole self (now (tables .entry)) id) (viewOf (whole self (now (tables .entry)) id) .ties channel) (handleSays r)) ⌝ }
+        ensures { λ r. ⌜ ((id : List ℕ) → Looks (whole self (now (tables .entry)) id) (handleOf (viewOf (whole self (now (tables .entry)) id) .ties channel)) (handleSays r)) ⌝ }
     {
         let endpoint = self.endpoint;
         if !endpoint.is_covered(tables) {

@@ -1,5 +1,6 @@
 -- Connections that draw the same from every list of calls have the same account: a few short lists of calls tell its parts. The state is told by eight single
--- calls, a limit by a frame of its length, the taken channels by deallocating, the hand-out list by allocating, and the ties by a Detach on each channel.
+-- calls, a limit by a frame of its length, the taken channels by deallocating, the hand-out list by allocating, the handle of a tie by a Detach on its channel,
+-- and the outgoing channel of a tie by a Detach after this channel was deallocated.
 -- Assumes nothing.
 use mathlib.Core.Path.{_≡_, refl, sym, _∙_, ap, ap₂, subst, fun-ext}
 use mathlib.Core.Bool.{Bool, true, false, cond, not}
@@ -8,15 +9,16 @@ use mathlib.Core.Option.{Option, none, some}
 use Prim.Native.Nat.{ℕ, _+_, _*_, _≤_, _<_}
 use native.Mathlib.Omega.{arith}
 use lib.Dec.{leb, eqb}
-use borrow.Author.Tests.{le-leb, leb-true, leb-false, lt-ltb, not-false}
+use borrow.Author.Tests.{le-leb, eq-eqb, eqb-true, leb-true, leb-false, lt-ltb, not-false}
 use Rattle.octets.specs.Verdict.{Verdict, refuse, require, accepts}
 use Rattle.octets.specs.Octets.{bytesOf}
 use Rattle.frame_encoder.specs.Frames.{Settings, frameBytes, settingsOk}
 use Rattle.frame_encoder.proofs.Laws.{settings-within}
 use Rattle.connection_state.specs.States.{State, Start, HeaderReceived, HeaderSent, HeaderExchange, OpenPipe, OpenClosePipe, OpenReceived, OpenSent, ClosePipe, Opened, CloseReceived, CloseSent, Discarding, End, states, is, isOneOf, sendHeader, receiveHeader, sendOpen, readOpen, sendClose, readClose, reading, sending, stopped}
 use Rattle.connection_state.proofs.States.{is-state, everywhere}
-use Rattle.channels.specs.Numbers.{Map, with}
-use Rattle.connection_model.specs.Connection.{Role, Connection, connection, Call, sendHeaderTo, receiveHeaderFrom, sendOpenTo, receiveFrame, sendCloseTo, sendSessionFrame, allocate, deallocate, Answer, given, decide, answered, Seen, next, seenIn}
+use Rattle.channels.specs.Numbers.{Map, with, freedFirst}
+use Rattle.channels.specs.Ties.{Tie, Ties, handleOf, through, dropped}
+use Rattle.connection_model.specs.Connection.{Role, Connection, connection, released, after, Call, sendHeaderTo, receiveHeaderFrom, sendOpenTo, receiveFrame, sendCloseTo, sendSessionFrame, allocate, deallocate, Answer, given, decide, answered, Seen, next, seenIn}
 use Rattle.connection_model.specs.Account.{when, limitsShow, account}
 use Rattle.connection_model.specs.Callers.{isValid, areValid, Valid}
 use Rattle.connection_model.proofs.Valid.{both}
@@ -26,13 +28,14 @@ use Rattle.connection_model.proofs.Probes.{space, space-slice, refusedW
 -- ---- premises
 
 -- what holds of every connection that calls lead to, over the fields that it speaks of
-pub record InReach (highest readingLimit writingLimit : ℕ) (taken ties : Map) : Type 0 where
+pub record InReach (highest readingLimit writingLimit : ℕ) (taken : Map) (ties : Ties) : Type 0 where
   pub reading-low : 512 ≤ readingLimit
   pub reading-high : readingLimit ≤ 16384
   pub writing-low : 512 ≤ writingLimit
   pub writing-high : writingLimit ≤ 16384
   pub taken-in : (n h : ℕ) → taken n ≡ some h → n ≤ highest
-  pub ties-in : (n h : ℕ) → ties n ≡ some h → n ≤ highest
+  pub ties-in : (n : ℕ) (t : Tie) → ties n ≡ some t → n ≤ highest
+  pub ties-through : (n : ℕ) (t : Tie) → ties n ≡ some t → taken (t .outgoing) ≡ some (t .handle)
 
 abbrev pub Reachable : Settings → Connection → Type 0
 Reachable S c = InReach (S .channelMax) (c .readingLimit) (c .writingLimit) (c .taken) (c .ties)
@@ -179,13 +182,66 @@ module _ (role : Role) (S : Settings) (c d : Connection) (i : Reachable S c) (j 
   writing-both x in-opened same = transfer-both Opened refl same
   writing-both x in-closing same = transfer-both CloseReceived refl same
 
-  ties-both : S .channelMax < 65536 → SameAt Opened → c .ties ≡ d .ties
-  ties-both few same =
-      same-maps (S .channelMax) (c .ties) (d .ties) (i .ties-in) (j .ties-in)
-      (λ n le. passed-told (framed 15 n) 22 (c .ties n) (d .ties n)
-      (ap answered (sym (detach-read role S l c n (i .reading-low) le (omega arith)))
+-- ---- ties
+
+-- a channel is freed, and the ties through it are dropped
+abbrev freeing : ℕ → Connection → Connection
+freeing ch c = connection (c .state) (c .readingLimit) (c .writingLimit) (c .agreedMax) (c .handOut) (with (c .taken) ch none) (dropped ch (c .ties))
+
+-- what a Detach tells of a tie after a channel was freed: nothing if it was made through this channel, and else its handle
+gone : (o : Option Tie) (t : Tie) → o ≡ some t → handleOf (cond (through (t .outgoing) o) none o) ≡ none
+gone o t e = ap (λ v. handleOf (cond (through (t .outgoing) v) none v)) e ∙ ap (λ b. handleOf (cond b none (some t))) (eq-eqb (t .outgoing) (t .outgoing) refl)
+
+kept : (ch : ℕ) (o : Option Tie) (u : Tie) → o ≡ some u → eqb (u .outgoing) ch ≡ false → handleOf (cond (through ch o) none o) ≡ some (u .handle)
+kept ch o u e p = ap (λ v. handleOf (cond (through ch v) none v)) e ∙ ap (λ b. handleOf (cond b none (some u))) p
+
+tie-same : (t u : Tie) → t .outgoing ≡ u .outgoing → t .handle ≡ u .handle → some t ≡ some u
+tie-same t u p q = λ z. some (record { outgoing = p z; handle = q z })
+
+module _ (role : Role) (S : Settings) (few : S .channelMax < 65536) where
+  handle-both : (n : ℕ) → n ≤ S .channelMax → (l m : Option (List ℕ)) (c d : Connection) → 512 ≤ c .readingLimit → 512 ≤ d .readingLimit
+      → Same role S (at Opened l c) (at Opened m d) → handleOf (c .ties n) ≡ handleOf (d .ties n)
+  handle-both n le l m c d low low′ same =
+      passed-told (framed 15 n) 22 (c .ties n) (d .ties n)
+      (ap answered (sym (detach-read role S l c n low le (omega arith)))
       ∙ one role S (at Opened l c) (at Opened m d) same (receiveFrame (frameBytes n aDetach) 0) (frame-valid n aDetach refl (omega arith))
-      ∙ ap answered (detach-read role S m d n (j .reading-low) le (omega arith))))
+      ∙ ap answered (detach-read role S m d n low′ le (omega arith)))
+
+  freed-next : (ch h : ℕ) (l : Option (List ℕ)) (c : Connection) → c .taken ch ≡ some h → next role S (at Opened l c) (deallocate ch) ≡ at Opened (freedFirst ch l) (freeing ch c)
+  freed-next ch h l c e = ap (λ o. after S (released ch o) (at Opened l c)) e
+
+  freed-both : (ch h : ℕ) (l m : Option (List ℕ)) (c d : Connection) → ch ≤ S .channelMax → c .taken ch ≡ some h → d .taken ch ≡ some h
+      → Same role S (at Opened l c) (at Opened m d) → Same role S (at Opened (freedFirst ch l) (freeing ch c)) (at Opened (freedFirst ch m) (freeing ch d))
+  freed-both ch h l m c d le e q same =
+      subst (λ x. Same role S x (at Opened (freedFirst ch m) (freeing ch d))) (freed-next ch h l c e)
+      (subst (Same role S (next role S (at Opened l c) (deallocate ch))) (freed-next ch h m d q)
+      (later role S (at Opened l c) (at Opened m d) same (deallocate ch) (lt-ltb ch 65536 (omega arith))))
+
+  module _ (c d : Connection) (i : Reachable S c) (j : Reachable S d) (l m : Option (List ℕ)) (same : Same role S (at Opened l c) (at Opened m d)) (tk : c .taken ≡ d .taken) where
+    -- the outgoing channel of the first tie is freed, which leaves only a tie through another channel
+    outgoing-both : (n : ℕ) → n ≤ S .channelMax → (t u : Tie) → c .ties n ≡ some t → d .ties n ≡ some u → (b : Bool) → eqb (u .outgoing) (t .outgoing) ≡ b → t .outgoing ≡ u .outgoing
+    outgoing-both n le t u e q true p = sym (eqb-true (u .outgoing) (t .outgoing) p)
+    outgoing-both n le t u e q false p =
+        let ch = t .outgoing in
+        let k : c .taken ch ≡ some (t .handle) = i .ties-through n t e in
+        let told : handleOf (dropped ch (c .ties) n) ≡ handleOf (dropped ch (d .ties) n) =
+        handle-both n le (freedFirst ch l) (freedFirst ch m) (freeing ch c) (freeing ch d) (i .reading-low) (j .reading-low)
+        (freed-both ch (t .handle) l m c d (i .taken-in ch (t .handle) k) k (sym (ap (λ f. f ch) tk) ∙ k) same) in
+        let z : none ≡ some (u .handle) = sym (gone (c .ties n) t e) ∙ told ∙ kept ch (d .ties n) u q p in
+        cc
+
+    tie-both : (n : ℕ) → n ≤ S .channelMax → (o v : Option Tie) → c .ties n ≡ o → d .ties n ≡ v → handleOf o ≡ handleOf v → o ≡ v
+    tie-both n le none none e q p = refl
+    tie-both n le none (some u) e q p = cc
+    tie-both n le (some t) none e q p = cc
+    tie-both n le (some t) (some u) e q p =
+        let h : t .handle ≡ u .handle = cc in
+        tie-same t u (outgoing-both n le t u e q (eqb (u .outgoing) (t .outgoing)) refl) h
+
+    ties-both : c .ties ≡ d .ties
+    ties-both =
+        same-maps (S .channelMax) (c .ties) (d .ties) (i .ties-in) (j .ties-in)
+        (λ n le. tie-both n le (c .ties n) (d .ties n) refl refl (handle-both n le l m c d (i .reading-low) (j .reading-low) same))
 
 -- ---- the hand-out list
 
@@ -268,8 +324,9 @@ module _ (role : Role) (S : Settings) (ok : settingsOk (S .containerId) (S .maxF
     handOut = shown x (c .handOut) (d .handOut) (λ g. handOut-both role S x g (c .handOut) (d .handOut) c d same) z;
     ties =
         shown-ties x (c .handOut) (d .handOut) c d
-        (λ e. ties-both role S c d i j (c .handOut) (d .handOut) few
-        (subst (λ y. Same role S (at y (c .handOut) c) (at y (d .handOut) d)) e same)) z;
+        (λ e. ties-both role S few c d i j (c .handOut) (d .handOut)
+        (subst (λ y. Same role S (at y (c .handOut) c) (at y (d .handOut) d)) e same)
+        (taken-both role S (at x (c .handOut) c) (at x (d .handOut) d) i j same few)) z;
   }
 
   -- Two connections that calls lead to, of one role and with the same settings in range: if every list of calls that a caller can pass draws the same from

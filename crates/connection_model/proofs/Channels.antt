@@ -1,5 +1,5 @@
 -- Channel numbers: the taken ones and the hand-out list together are 0 to the limit, each once; the list is what allocating gives in turn until it is refused;
--- freed numbers come first, latest first, then those never used, ascending; a freed number leaves the ties as they are. The limit is a parameter.
+-- freed numbers come first, latest first, then those never used, ascending; a freed number takes along the ties that were made through it, and no others. The limit is a parameter.
 -- Assumes nothing.
 use mathlib.Core.Path.{_≡_, refl, sym, _∙_, ap, subst}
 use mathlib.Core.Bool.{Bool, true, false, cond, not}
@@ -15,6 +15,7 @@ use Rattle.octets.specs.Verdict.{Verdict, refuse, accept}
 use Rattle.frame_encoder.specs.Frames.{Settings}
 use Rattle.connection_state.specs.States.{isOneOf, stopped}
 use Rattle.channels.specs.Numbers.{Map, nowhere, with, upFrom, freedFirst, one, isTaken, count, EachOnce, Shared}
+use Rattle.channels.specs.Ties.{dropped}
 use Rattle.connection_model.specs.Connection.{Role, Connection, fresh, Call, allocate, deallocate, Answer, channel, Effect, stay, go, agree, take, give, tie, takeAndTie, Outcome, apply, given, released, decide, Seen, answered, after, next, run, seenIn}
 use Rattle.connection_model.proofs.Rules.{Holds, refused, holds, require-passed, Legit, Lawful, lawful, lends-any}
 
@@ -49,12 +50,13 @@ module _ (role : Role) (S : Settings) where
 
   -- ---- deallocating
 
-  pub deallocate-ties : (c : Connection) (ch : ℕ) → (next role S c (deallocate ch)) .ties ≡ c .ties
-  deallocate-ties c ch = freeing (c .taken ch)
-    where
-      freeing : (o : Option ℕ) → (after S (released ch o) c) .ties ≡ c .ties
-      freeing none = refl
-      freeing (some h) = refl
+  -- a freed channel takes along the ties that were made through it, and no others
+  pub deallocate-ties : (c : Connection) (ch h : ℕ) → c .taken ch ≡ some h → (next role S c (deallocate ch)) .ties ≡ dropped ch (c .ties)
+  deallocate-ties c ch h e = ap (λ o. (after S (released ch o) c) .ties) e
+
+  -- where it is not taken, all ties stay
+  pub untaken-ties : (c : Connection) (ch : ℕ) → c .taken ch ≡ none → (next role S c (deallocate ch)) .ties ≡ c .ties
+  untaken-ties c ch e = ap (λ o. (after S (released ch o) c) .ties) e
 
   -- a freed number is the next that is given
   pub deallocate-first : (c : Connection) (ch h : ℕ) (l : List ℕ) → c .taken ch ≡ some h → c .handOut ≡ some l → (next role S c (deallocate ch)) .handOut ≡ some (ch ∷ l)
@@ -84,7 +86,7 @@ pooled (go x) p = p
 pooled (agree x m w) p = pool [] 0
 pooled (take ch rest h) p = drawn (p .freedNumbers) (p .unused)
 pooled (give ch) p = pool (ch ∷ p .freedNumbers) (p .unused)
-pooled (tie ch h) p = p
+pooled (tie n t) p = p
 pooled (takeAndTie ch rest h at) p = drawn (p .freedNumbers) (p .unused)
 
 abbrev pub poolAfter : Verdict Outcome → Pool → Pool
@@ -128,7 +130,7 @@ module _ (H : ℕ → Type 0) (S : Settings) where
   ordered-keeps (agree x m w) c p l i = let r : suc m ≡ suc m - 0 = omega arith in (ap (upFrom 0) r, omega arith)
   ordered-keeps (take ch rest h) c p l i = ordered-take (c .agreedMax) (c .handOut) p ch rest (l .next) i
   ordered-keeps (give ch) c p l i = ordered-give (c .agreedMax) (c .handOut) p ch i
-  ordered-keeps (tie ch h) c p l i = i
+  ordered-keeps (tie n t) c p l i = i
   ordered-keeps (takeAndTie ch rest h at) c p l i = ordered-take (c .agreedMax) (c .handOut) p ch rest (l .0 .next) i
 
   ordered-after : (c : Connection) (p : Pool) {v : Verdict Outcome} → Holds (Lawful H S c) v → Ordered (c .agreedMax) (c .handOut) p → Ordered ((after S v c) .agreedMax) ((after S v c) .handOut) (poolAfter v p)

@@ -14,6 +14,7 @@ use Rattle.frame_decoder.specs.Frame.{Frame, readFrame, sessionFrame, beginsFor
 use Rattle.frame_encoder.specs.Frames.{Settings, ErrorText, limited}
 use Rattle.session_frame.specs.Session.{sessionBytes}
 use Rattle.connection_state.specs.States.{State, Start, HeaderReceived, HeaderSent, HeaderExchange, OpenPipe, OpenClosePipe, OpenReceived, OpenSent, ClosePipe, Opened, CloseReceived, CloseSent, Discarding, End, is, isOneOf, Move, along, sendHeader, receiveHeader, receiveOtherHeader, sendOpen, readOpen, sendClose, sendCloseWithError, readClose, silent}
+use Rattle.channels.specs.Ties.{Tie}
 use Rattle.connection_model.specs.Connection.{Role, dialler, listener, Connection, fresh, Call, sendHeaderTo, receiveHeaderFrom, sendOpenTo, receiveFrame, sendCloseTo, sendSessionFrame, allocate, deallocate, tick, Answer, wrote, stop, header, otherProtocol, nothingToDo, opened, closed, forward, began, channel, freed, Outcome, apply, headed, tieTo, untie, passOn, newSession, begun, performativeRead, frameRead, closes, tiedBy, sessionSent, given, released, decide, after, next, run}
 use Rattle.connection_model.proofs.Rules.{Holds, refused, holds, on-require, on-cond, on-any, on-andThen, on-along, and-left, and-right, implied, each, one-of, eachRow}
 
@@ -153,15 +154,15 @@ module _ (role : Role) (S : Settings) (c : Connection) where
   on-headed amqp100 = on-andThen _ _ (moved false false false receiveHeader tt (c .state)) (λ x g. holds g)
   on-headed (other h) = on-andThen _ _ (moved false false true receiveOtherHeader tt (c .state)) (λ x g. holds g)
 
-  on-tieTo : (f : Frame) (o : Option ℕ) → Fine false (tieTo f o)
-  on-tieTo f none = refused
-  on-tieTo f (some h) = holds (λ w r o t. t)
+  on-tieTo : (f : Frame) (n : ℕ) (o : Option ℕ) → Fine false (tieTo f n o)
+  on-tieTo f n none = refused
+  on-tieTo f n (some h) = holds (λ w r o t. t)
 
-  on-untie : (f : Frame) (o : Option ℕ) → Fine false (untie f o)
+  on-untie : (f : Frame) (o : Option Tie) → Fine false (untie f o)
   on-untie f none = refused
   on-untie f (some h) = holds (λ w r o t. t)
 
-  on-passOn : (f : Frame) (code : ℕ) (o : Option ℕ) → Fine false (passOn f code o)
+  on-passOn : (f : Frame) (code : ℕ) (o : Option Tie) → Fine false (passOn f code o)
   on-passOn f code none = refused
   on-passOn f code (some h) = holds (λ w r o t. t)
 
@@ -173,7 +174,7 @@ module _ (role : Role) (S : Settings) (c : Connection) where
 
   on-begun : (f : Frame) (h : ℕ) (rs : List ℕ) → Fine false (begun role c f h rs)
   on-begun f h [] = on-newSession role f h (c .handOut)
-  on-begun f h (r ∷ rs) = on-tieTo f (c .taken r)
+  on-begun f h (r ∷ rs) = on-tieTo f r (c .taken r)
 
   on-performative : (f : Frame) (h : ℕ) (p : Performative) → Fine false (performativeRead role S c f h p)
   on-performative f h p =
@@ -192,16 +193,16 @@ module _ (role : Role) (S : Settings) (c : Connection) where
   on-closes none = moved true false false sendClose tt (c .state)
   on-closes (some e) = moved true false false sendCloseWithError tt (c .state)
 
-  on-tiedBy : (ρ : Role) (rs : List ℕ) (o : Option ℕ) → Holds (λ e. apply S e c .state ≡ c .state) (tiedBy ρ rs o)
-  on-tiedBy dialler rs o = holds refl
-  on-tiedBy listener [] o = holds refl
-  on-tiedBy listener (r ∷ rs) none = refused
-  on-tiedBy listener (r ∷ rs) (some h) = holds refl
+  on-tiedBy : (ρ : Role) (rs : List ℕ) (n : ℕ) (o : Option ℕ) → Holds (λ e. apply S e c .state ≡ c .state) (tiedBy ρ rs n o)
+  on-tiedBy dialler rs n o = holds refl
+  on-tiedBy listener [] n o = holds refl
+  on-tiedBy listener (r ∷ rs) n none = refused
+  on-tiedBy listener (r ∷ rs) n (some h) = holds refl
 
   on-sent : (s : List ℕ) (q : Frame × Performative) → Fine false (sessionSent role c s q)
   on-sent s q =
       on-require _ _ _ _ (λ i.
-      on-andThen _ _ (on-tiedBy role (beginsFor (eqb (q .1 .code) 17) (q .1)) (c .taken (q .0 .channel))) (λ e same.
+      on-andThen _ _ (on-tiedBy role (beginsFor (eqb (q .1 .code) 17) (q .1)) (q .0 .channel) (c .taken (q .0 .channel))) (λ e same.
       on-any _ (limited (c .writingLimit) (sessionBytes s q)) _ (λ bytes. holds (λ w r o t. subst (λ y. T (tells y w r o)) (sym same) t))))
 
   on-given : (h : ℕ) (l : Option (List ℕ)) → Fine false (given h l)

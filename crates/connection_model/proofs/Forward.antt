@@ -19,6 +19,7 @@ use Rattle.frame_encoder.specs.Frames.{Settings, ErrorText, frameBytes, limited
 use Rattle.session_frame.specs.Session.{sessionBytes}
 use Rattle.connection_state.specs.States.{State, Opened, Discarding, is, isOneOf, sendOpen, sendClose, sendCloseWithError, reading, sending, stopped}
 use Rattle.channels.specs.Numbers.{Map, with, freedFirst}
+use Rattle.channels.specs.Ties.{Ties, tieOf, dropped}
 use Rattle.connection_model.specs.Connection.{hasError, Role, Connection, fresh, connection, Call, sendHeaderTo, receiveHeaderFrom, sendOpenTo, receiveFrame, sendCloseTo, sendSessionFrame, allocate, deallocate, tick, Effect, stay, go, agree, take, give, tie, takeAndTie, Outcome, nothingToDo, says, apply, headed, untie, passOn, begun, openRead, closeRead, sessionRead, frameRead, closes, tiedBy, sessionSent, given, decide, lent, Seen, answered, written, seen, after, next, run, seenIn}
 use Rattle.connection_model.specs.Account.{when, limitsShow, account}
 use Rattle.connection_model.proofs.Rules.{Holds, refused, holds, implied, one-of, everywhere, on-along, stage, Legit, Lawful, lawful, lends-any}
@@ -46,7 +47,7 @@ unstopped : (x : State) → T (not (isOneOf stopped x)) → stage x ≤ 3
 unstopped x t = leb→le _ _ (implied (not (isOneOf stopped x)) (leb (stage x) 3) (everywhere (λ y. cond (not (isOneOf stopped y)) (leb (stage y) 3) true) tt tt x) t)
 
 -- two connections with one state, reading limit and taken channels; with one writing limit and hand-out list, unless nothing more is written; and with one map of ties, until the peer closes
-module _ (x : State) (r : ℕ) (tk : Map) (w w′ : ℕ) (m m′ : Option ℕ) (l l′ : Option (List ℕ)) (ti ti′ : Map)
+module _ (x : State) (r : ℕ) (tk : Map) (w w′ : ℕ) (m m′ : Option ℕ) (l l′ : Option (List ℕ)) (ti ti′ : Ties)
     (writing : stage x ≤ 3 → w ≡ w′) (list : stage x ≤ 3 → l ≡ l′) (tied : stage x ≤ 2 → ti ≡ ti′) (role : Role) (S : Settings) where
   abbrev here : Connection
   here = connection x r w m l tk ti
@@ -84,7 +85,7 @@ module _ (x : State) (r : ℕ) (tk : Map) (w w′ : ℕ) (m m′ : Option ℕ) (
   same-sent s q =
       require-same 20 (isOneOf sending x) _ _ (λ t.
       let u : stage x ≤ 3 = leb→le _ _ (one-of (λ y. leb (stage y) 3) sending tt x t) in
-      then-same (tiedBy role (beginsFor (eqb (q .1 .code) 17) (q .1)) (tk (q .0 .channel))) _ _ (λ e. same-limited _ (sessionBytes s q) u))
+      then-same (tiedBy role (beginsFor (eqb (q .1 .code) 17) (q .1)) (q .0 .channel) (tk (q .0 .channel))) _ _ (λ e. same-limited _ (sessionBytes s q) u))
 
   -- no frame is written where a table leads no further
   going : (e : Option ErrorText) → Holds (λ y. T (leb (stage x) 3)) (closes e x)
@@ -155,23 +156,23 @@ module _ (role : Role) (S : Settings) where
     taken = ap (λ f. with f ch none) (a .taken);
     writing = a .writing;
     list = λ u. ap (freedFirst ch) (a .list u);
-    tied = a .tied;
+    tied = λ u. ap (dropped ch) (a .tied u);
   }
-  alike-effect H (tie ch h) l a = record {
+  alike-effect H (tie n t) l a = record {
     state = a .state;
     reading = a .reading;
     taken = a .taken;
     writing = a .writing;
     list = a .list;
-    tied = λ u. ap (λ f. with f ch h) (a .tied u);
+    tied = λ u. ap (λ f. with f n t) (a .tied u);
   }
-  alike-effect H (takeAndTie ch rest h at) l a = record {
+  alike-effect H (takeAndTie ch rest h n) l a = record {
     state = a .state;
     reading = a .reading;
     taken = ap (λ f. with f ch (some h)) (a .taken);
     writing = a .writing;
     list = λ u. refl;
-    tied = λ u. ap (λ f. with f at (some h)) (a .tied u);
+    tied = λ u. ap (λ f. with f n (some (tieOf ch h))) (a .tied u);
   }
 
   alike-after : (H : ℕ → Type 0) {c d : Connection} {v : Verdict Outcome} → Holds (Lawful H S c) v → Alike c d → Alike (after S v c) (after S v d)

@@ -7,16 +7,17 @@ use mathlib.Core.Option.{Option, none, some}
 use Prim.Native.Nat.{ℕ, suc, _≤_, _<_}
 use native.Mathlib.Omega.{arith}
 use lib.Dec.{T, leb, eqb, eqb→eq}
-use borrow.Author.Tests.{eq-eqb, le-leb}
+use borrow.Author.Tests.{eq-eqb, ne-eqb, le-leb}
 use Rattle.octets.specs.Verdict.{Verdict}
 use Rattle.frame_encoder.specs.Frames.{Settings}
 use Rattle.connection_state.specs.States.{State, OpenReceived, is, isOneOf, beforeOpen, afterOpen}
 use Rattle.connection_state.proofs.States.{is-state}
-use Rattle.channels.specs.Numbers.{Map, nowhere, with, upFrom, EachOnce, Shared}
+use Rattle.channels.specs.Numbers.{MapTo, Map, nowhere, with, upFrom, one, isTaken, EachOnce, Shared}
+use Rattle.channels.specs.Ties.{Tie, tieOf, Ties, through, dropped}
 use Rattle.connection_model.specs.Connection.{Role, Connection, fresh, Call, Effect, stay, go, agree, take, give, tie, takeAndTie, Outcome, connection, apply, after, next, run}
-use Rattle.connection_model.specs.Sound.{Unopened, TiedWithin, Agreed, Reached}
+use Rattle.connection_model.specs.Sound.{Unopened, TiedWithin, TiedThrough, Agreed, Reached}
 use Rattle.connection_model.proofs.Rules.{Holds, refused, holds, implied, everywhere, stage, true-is, Lends, Holder, MayTie, MayTake, Legit, Lawful, lawful, lends-any}
-use Rattle.channels.proofs.Numbers.{once-fresh, once-taken, shared-take, shared-give}
+use Rattle.channels.proofs.Numbers.{one-small, once-fresh, once-taken, shared-take, shared-give}
 
 -- ---- the two cases
 
@@ -26,8 +27,8 @@ nothing-some o a p q = let z : _≡_ {A = ℕ} 0 1 = cc in absurd (omega arith)
 some-same : {A : Type 0} (P : A → Type 0) (a b : A) → some a ≡ some b → P a → P b
 some-same P a b e p = let q : a ≡ b = cc in subst P q p
 
-not-held : {B : Type 0} (f : Map) (n h : ℕ) → f ≡ nowhere → f n ≡ some h → B
-not-held f n h e = nothing-some (f n) h (ap (λ g. g n) e)
+not-held : {A B : Type 0} (f : MapTo A) (n : ℕ) (a : A) → f ≡ nowhere → f n ≡ some a → B
+not-held f n a e = nothing-some (f n) a (ap (λ g. g n) e)
 
 clash : {B : Type 0} (b : Bool) → b ≡ true → b ≡ false → B
 clash b p q = absurd (subst T (sym p ∙ q) tt)
@@ -45,62 +46,101 @@ module _ {S : Settings} {c : Connection} (i : Reached S c) where
   pub before-open : isOneOf beforeOpen (c .state) ≡ true → c ≡ apply S (go (c .state)) fresh
   before-open e = either-way (λ u. u .at-first) (λ m q a. clash (isOneOf beforeOpen (c .state)) e (a .stands))
 
--- ---- each lawful effect keeps it
+-- ---- maps and ties
 
 -- of a map with another value at k, what held of the map and holds of the value
-with-holds : {P : ℕ → ℕ → Type 0} (f : Map) (k : ℕ) (v : Option ℕ) → ((h : ℕ) → v ≡ some h → P k h) → ((n h : ℕ) → f n ≡ some h → P n h) → (n h : ℕ) → with f k v n ≡ some h → P n h
-with-holds {P} f k v p i n h e = at (eqb k n) refl e
+with-holds :
+    {A : Type 0} {P : ℕ → A → Type 0} (f : MapTo A) (k : ℕ) (v : Option A) → ((a : A) → v ≡ some a → P k a) → ((n : ℕ) (a : A) → f n ≡ some a → P n a)
+    → (n : ℕ) (a : A) → with f k v n ≡ some a → P n a
+with-holds {P} f k v p i n a e = at (eqb k n) refl e
   where
-    at : (b : Bool) → eqb k n ≡ b → cond b v (f n) ≡ some h → P n h
-    at true q u = subst (λ m. P m h) (eqb→eq k n (subst T (sym q) tt)) (p h u)
-    at false q u = i n h u
+    at : (b : Bool) → eqb k n ≡ b → cond b v (f n) ≡ some a → P n a
+    at true q u = subst (λ m. P m a) (eqb→eq k n (subst T (sym q) tt)) (p a u)
+    at false q u = i n a u
 
-module _ (S : Settings) (m : ℕ) (c : Connection) (a : Agreed S m c) where
-  -- with other numbers free and taken
-  other-numbers :
-      (l : Option (List ℕ)) (tk : Map) → Shared (some m) l tk → Agreed S m (connection (c .state) (c .readingLimit) (c .writingLimit) (c .agreedMax) l tk (c .ties))
-  other-numbers l tk s = record {
-    stands = a .stands;
-    most = a .most;
-    reading-own = a .reading-own;
-    writing-low = a .writing-low;
-    writing-high = a .writing-high;
-    shared = s;
-    tied = a .tied;
-    untied = a .untied;
-  }
+elsewhere : {A : Type 0} (f : MapTo A) (k : ℕ) (v : Option A) (n : ℕ) → eqb k n ≡ false → with f k v n ≡ f n
+elsewhere f k v n e = ap (λ b. cond b v (f n)) e
 
-  -- with other ties, past OpenReceived
-  other-ties :
-      2 ≤ stage (c .state) → (ch : ℕ) (h : Option ℕ) → ch ≤ S .channelMax
-      → Agreed S m (connection (c .state) (c .readingLimit) (c .writingLimit) (c .agreedMax) (c .handOut) (c .taken) (with (c .ties) ch h))
-  other-ties u ch h le = record {
-    stands = a .stands;
-    most = a .most;
-    reading-own = a .reading-own;
-    writing-low = a .writing-low;
-    writing-high = a .writing-high;
-    shared = a .shared;
-    tied = with-holds {P = λ n k. n ≤ S .channelMax} (c .ties) ch h (λ k e. le) (a .tied);
-    untied = λ e. let q : OpenReceived ≡ c .state = is-state OpenReceived (c .state) (subst T (sym e) tt) in let z : ⊥ = omega (arith, ap stage q) in absurd z;
-  }
+-- a tie that is left when those through a channel are dropped was there, and was made through another
+left : (ch : ℕ) (o : Option Tie) (t : Tie) → cond (through ch o) none o ≡ some t → (o ≡ some t) × (eqb ch (t .outgoing) ≡ false)
+left ch none t e = nothing-some none t refl e
+left ch (some u) t e = go (eqb (u .outgoing) ch) refl e
+  where
+    go : (b : Bool) → eqb (u .outgoing) ch ≡ b → cond b none (some u) ≡ some t → (some u ≡ some t) × (eqb ch (t .outgoing) ≡ false)
+    go true q p = nothing-some none t refl p
+    go false q p =
+        (p, some-same (λ v. eqb ch (v .outgoing) ≡ false) u t p (ne-eqb ch (u .outgoing) (λ s. clash (eqb (u .outgoing) ch) (eq-eqb (u .outgoing) ch (sym s)) q)))
+
+-- a number that is handed out is not taken
+next-free : (m : ℕ) (l : Option (List ℕ)) (tk : Map) (ch : ℕ) (rest : List ℕ) → l ≡ some (ch ∷ rest) → Shared (some m) l tk → (h : ℕ) → tk ch ≡ some h → ⊥
+next-free m l tk ch rest e i h q =
+    let j : EachOnce m (ch ∷ rest) tk = subst (λ o. Shared (some m) o tk) e i in
+    omega (arith, j ch, ap one (eq-eqb ch ch refl), one-small (leb ch m), ap isTaken q)
+
+-- ties are through taken channels when one more is taken
+taken-through :
+    (m : ℕ) (l : Option (List ℕ)) (tk : Map) (ti : Ties) (ch : ℕ) (rest : List ℕ) (h : ℕ) → l ≡ some (ch ∷ rest) → Shared (some m) l tk → TiedThrough tk ti
+    → TiedThrough (with tk ch (some h)) ti
+taken-through m l tk ti ch rest h e i j n t q = go (eqb ch (t .outgoing)) refl
+  where
+    go : (b : Bool) → eqb ch (t .outgoing) ≡ b → with tk ch (some h) (t .outgoing) ≡ some (t .handle)
+    go true p = absurd (next-free m l tk ch rest e i (t .handle) (ap tk (eqb→eq ch (t .outgoing) (subst T (sym p) tt)) ∙ j n t q))
+    go false p = elsewhere tk ch (some h) (t .outgoing) p ∙ j n t q
+
+-- and when one is freed and those through it are dropped
+freed-through : (tk : Map) (ti : Ties) (ch : ℕ) → TiedThrough tk ti → TiedThrough (with tk ch none) (dropped ch ti)
+freed-through tk ti ch j n t q = let p = left ch (ti n) t q in elsewhere tk ch none (t .outgoing) (p .1) ∙ j n t (p .0)
+
+-- a new tie is through a taken channel
+held-by : (c : Connection) (n : ℕ) (o : Option Tie) → Holder c n o → (t : Tie) → o ≡ some t → c .taken (t .outgoing) ≡ some (t .handle)
+held-by c n none k t e = nothing-some none t refl e
+held-by c n (some u) k t e = some-same (λ v. c .taken (v .outgoing) ≡ some (v .handle)) u t e k
+
+past-received : {B : Type 0} (x : State) → 2 ≤ stage x → is OpenReceived x ≡ true → B
+past-received x u e = let q : OpenReceived ≡ x = is-state OpenReceived x (subst T (sym e) tt) in let z : ⊥ = omega (arith, ap stage q) in absurd z
+
+-- ---- each lawful effect keeps it
+
+-- with other numbers free and taken, and other ties
+other-channels :
+    (S : Settings) (m : ℕ) (c : Connection) → Agreed S m c → (l : Option (List ℕ)) (tk : Map) (ti : Ties) → Shared (some m) l tk → TiedWithin (S .channelMax) ti → TiedThrough tk ti
+    → (is OpenReceived (c .state) ≡ true → ti ≡ nowhere) → Agreed S m (connection (c .state) (c .readingLimit) (c .writingLimit) (c .agreedMax) l tk ti)
+other-channels S m c a l tk ti s w t u = record {
+  stands = a .stands;
+  most = a .most;
+  reading-own = a .reading-own;
+  writing-low = a .writing-low;
+  writing-high = a .writing-high;
+  shared = s;
+  tied = w;
+  through = t;
+  untied = u;
+}
 
 module _ (H : ℕ → Type 0) (S : Settings) where
   keeps-take : (ch : ℕ) (rest : List ℕ) (h : ℕ) (c : Connection) → MayTake H c ch rest h → Reached S c → Reached S (apply S (take ch rest h) c)
   keeps-take ch rest h c l i = record {
     unopened = λ q. nothing-some _ _ (ap (λ d. d .handOut) (i .unopened q .at-first)) (l .next);
-    agreed = λ m q. let a = i .agreed m q in other-numbers S m c a _ _ (shared-take (some m) (c .handOut) (c .taken) ch rest h (l .next) (a .shared));
+    agreed = λ m q.
+        let a = i .agreed m q in
+        other-channels S m c a _ _ _ (shared-take (some m) (c .handOut) (c .taken) ch rest h (l .next) (a .shared)) (a .tied)
+        (taken-through m (c .handOut) (c .taken) (c .ties) ch rest h (l .next) (a .shared) (a .through)) (a .untied);
   }
 
-  keeps-tie : (ch : ℕ) (h : Option ℕ) (c : Connection) → MayTie S c ch h → Reached S c → Reached S (apply S (tie ch h) c)
-  keeps-tie ch h c l i = record {
-    unopened = λ q. holderless h (i .unopened q .at-first) (l .holder);
-    agreed = λ m q. other-ties S m c (i .agreed m q) (l .open-yet) ch h (l .most);
+  keeps-tie : (n : ℕ) (o : Option Tie) (c : Connection) → MayTie S c n o → Reached S c → Reached S (apply S (tie n o) c)
+  keeps-tie n o c l i = record {
+    unopened = λ q. holderless o (i .unopened q .at-first) (l .holder);
+    agreed = λ m q.
+        let a = i .agreed m q in
+        other-channels S m c a _ _ _ (a .shared)
+        (with-holds {P = λ k t. k ≤ S .channelMax} (c .ties) n o (λ t e. l .most) (a .tied))
+        (with-holds {P = λ k t. c .taken (t .outgoing) ≡ some (t .handle)} (c .ties) n o (held-by c n o (l .holder)) (a .through))
+        (past-received (c .state) (l .open-yet));
   }
     where
-      holderless : {B : Type 0} (o : Option ℕ) → c ≡ apply S (go (c .state)) fresh → Holder c ch o → B
-      holderless none f k = not-held (c .ties) ch (k .0) (ap (λ d. d .ties) f) (k .1)
-      holderless (some j) f k = not-held (c .taken) (k .0) j (ap (λ d. d .taken) f) (k .1)
+      holderless : {B : Type 0} (v : Option Tie) → c ≡ apply S (go (c .state)) fresh → Holder c n v → B
+      holderless none f k = not-held (c .ties) n (k .0) (ap (λ d. d .ties) f) (k .1)
+      holderless (some t) f k = not-held (c .taken) (t .outgoing) (t .handle) (ap (λ d. d .taken) f) k
 
   pub keeps : (e : Effect) (c : Connection) → Legit H S c e → Reached S c → Reached S (apply S e c)
   keeps stay c l i = i
@@ -116,6 +156,7 @@ module _ (H : ℕ → Type 0) (S : Settings) where
           writing-high = a .writing-high;
           shared = a .shared;
           tied = a .tied;
+          through = a .through;
           untied = λ e. clash (is OpenReceived x) e (l .not-received);
         };
   }
@@ -131,19 +172,23 @@ module _ (H : ℕ → Type 0) (S : Settings) where
           writing-low = l .low;
           writing-high = l .high;
           shared = subst (EachOnce m (upFrom 0 (suc m))) (sym (ap (λ d. d .taken) f)) (once-fresh m);
-          tied = λ n h. not-held (c .ties) n h no-tie;
+          tied = λ n t. not-held (c .ties) n t no-tie;
+          through = λ n t. not-held (c .ties) n t no-tie;
           untied = λ e. no-tie;
         });
       }
   keeps (take ch rest h) c l i = keeps-take ch rest h c l i
   keeps (give ch) c l i = record {
     unopened = λ q. not-held (c .taken) ch (l .0) (ap (λ d. d .taken) (i .unopened q .at-first)) (l .1);
-    agreed = λ m q. let a = i .agreed m q in other-numbers S m c a _ _ (shared-give (some m) (c .handOut) (c .taken) ch (l .0) (l .1) (a .shared));
+    agreed = λ m q.
+        let a = i .agreed m q in
+        other-channels S m c a _ _ _ (shared-give (some m) (c .handOut) (c .taken) ch (l .0) (l .1) (a .shared)) (λ n t e. a .tied n t (left ch (c .ties n) t e .0))
+        (freed-through (c .taken) (c .ties) ch (a .through)) (λ e. ap (dropped ch) (a .untied e));
   }
-  keeps (tie ch h) c l i = keeps-tie ch h c l i
-  keeps (takeAndTie ch rest h at) c l i =
+  keeps (tie n o) c l i = keeps-tie n o c l i
+  keeps (takeAndTie ch rest h n) c l i =
       let held : with (c .taken) ch (some h) ch ≡ some h = rw (eq-eqb ch ch refl) in
-      keeps-tie at (some h) (apply S (take ch rest h) c) (record { open-yet = l .1; most = l .2; holder = (ch, held) }) (keeps-take ch rest h c (l .0) i)
+      keeps-tie n (some (tieOf ch h)) (apply S (take ch rest h) c) (record { open-yet = l .1; most = l .2; holder = held }) (keeps-take ch rest h c (l .0) i)
 
   after-keeps : (c : Connection) {v : Verdict Outcome} → Holds (Lawful H S c) v → Reached S c → Reached S (after S v c)
   after-keeps c refused i = i
@@ -189,7 +234,11 @@ module _ {S : Settings} {c : Connection} (i : Reached S c) where
 
   -- a tied channel is at most the local channel-max
   pub tied-within : TiedWithin (S .channelMax) (c .ties)
-  tied-within = either-way i (λ u n h. not-held (c .ties) n h (ap (λ d. d .ties) (u .at-first))) (λ m q a. a .tied)
+  tied-within = either-way i (λ u n t. not-held (c .ties) n t (ap (λ d. d .ties) (u .at-first))) (λ m q a. a .tied)
+
+  -- a tie names a taken channel, with its handle
+  pub tied-through : TiedThrough (c .taken) (c .ties)
+  tied-through = either-way i (λ u n t. not-held (c .ties) n t (ap (λ d. d .ties) (u .at-first))) (λ m q a. a .through)
 
   pub shares : Shared (c .agreedMax) (c .handOut) (c .taken)
   shares = either-way i (λ u. subst (λ d. Shared (d .agreedMax) (d .handOut) (d .taken)) (sym (u .at-first)) refl) (λ m q a. subst (λ o. Shared o (c .handOut) (c .taken)) (sym q) (a .shared))
@@ -236,17 +285,13 @@ module _ {S : Settings} {c : Connection} (i : Reached S c) where
 -- ---- handles
 
 -- what holds of every handle that is lent holds of every handle that is held
-pub record Lent (H : ℕ → Type 0) (taken ties : Map) : Type 0 where
+pub record Lent (H : ℕ → Type 0) (taken : Map) (ties : Ties) : Type 0 where
   pub taken-lent : (n h : ℕ) → taken n ≡ some h → H h
-  pub tied-lent : (n h : ℕ) → ties n ≡ some h → H h
+  pub tied-lent : (n : ℕ) (t : Tie) → ties n ≡ some t → H (t .handle)
 
 abbrev pub AllLend : (ℕ → Type 0) → List Call → Type 0
 AllLend H [] = Unit {0}
 AllLend H (call ∷ calls) = Lends H call × AllLend H calls
-
-holder-lent : (H : ℕ → Type 0) (c : Connection) (ch : ℕ) (o : Option ℕ) → Holder c ch o → ((n h : ℕ) → c .taken n ≡ some h → H h) → (k : ℕ) → o ≡ some k → H k
-holder-lent H c ch none l i k e = nothing-some none k refl e
-holder-lent H c ch (some h) l i k e = some-same H h k e (i (l .0) h (l .1))
 
 module _ (H : ℕ → Type 0) (S : Settings) where
   lent-keeps : (e : Effect) (c : Connection) → Legit H S c e → Lent H (c .taken) (c .ties) → Lent H ((apply S e c) .taken) ((apply S e c) .ties)
@@ -259,15 +304,15 @@ module _ (H : ℕ → Type 0) (S : Settings) where
   }
   lent-keeps (give ch) c l i = record {
     taken-lent = with-holds {P = λ n k. H k} (c .taken) ch none (λ k e. nothing-some none k refl e) (i .taken-lent);
-    tied-lent = i .tied-lent;
+    tied-lent = λ n t e. i .tied-lent n t (left ch (c .ties n) t e .0);
   }
-  lent-keeps (tie ch h) c l i = record {
+  lent-keeps (tie n o) c l i = record {
     taken-lent = i .taken-lent;
-    tied-lent = with-holds {P = λ n k. H k} (c .ties) ch h (holder-lent H c ch h (l .holder) (i .taken-lent)) (i .tied-lent);
+    tied-lent = with-holds {P = λ k t. H (t .handle)} (c .ties) n o (λ t e. i .taken-lent (t .outgoing) (t .handle) (held-by c n o (l .holder) t e)) (i .tied-lent);
   }
-  lent-keeps (takeAndTie ch rest h at) c l i = record {
+  lent-keeps (takeAndTie ch rest h n) c l i = record {
     taken-lent = with-holds {P = λ n k. H k} (c .taken) ch (some h) (λ k e. some-same H h k e (l .0 .lent)) (i .taken-lent);
-    tied-lent = with-holds {P = λ n k. H k} (c .ties) at (some h) (λ k e. some-same H h k e (l .0 .lent)) (i .tied-lent);
+    tied-lent = with-holds {P = λ k t. H (t .handle)} (c .ties) n (some (tieOf ch h)) (λ t e. some-same (λ u. H (u .handle)) (tieOf ch h) t e (l .0 .lent)) (i .tied-lent);
   }
 
   lent-after : (c : Connection) {v : Verdict Outcome} → Holds (Lawful H S c) v → Lent H (c .taken) (c .ties) → Lent H ((after S v c) .taken) ((after S v c) .ties)
@@ -279,4 +324,4 @@ module _ (H : ℕ → Type 0) (S : Settings) where
   lent-run role (call ∷ calls) c k i = lent-run role calls (next role S c call) (k .1) (lent-after c (lawful H role S c call (k .0)) i)
 
   pub handles-lent : (role : Role) (calls : List Call) → AllLend H calls → Lent H ((run role S fresh calls) .taken) ((run role S fresh calls) .ties)
-  handles-lent role calls k = lent-run role calls fresh k (record { taken-lent = λ n h e. nothing-some none h refl e; tied-lent = λ n h e. nothing-some none h refl e })
+  handles-lent role calls k = lent-run role calls fresh k (record { taken-lent = λ n h e. nothing-some none h refl e; tied-lent = λ n t e. nothing-some none t refl e })

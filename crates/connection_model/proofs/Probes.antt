@@ -19,6 +19,7 @@ use Rattle.frame_decoder.specs.Frame.{Frame, readFrame}
 use Rattle.frame_encoder.specs.Frames.{Settings, frameBytes, limited}
 use Rattle.frame_encoder.proofs.Laws.{length-frame}
 use Rattle.connection_state.specs.States.{State, OpenReceived, Opened, CloseReceived, Discarding, is, isOneOf, Move, _⇒_, along, sendHeader, receiveHeader, sendOpen, readOpen, sendClose, readClose, reading, sending, stopped}
+use Rattle.channels.specs.Ties.{Tie, handleOf}
 use Rattle.connection_model.specs.Connection.{Role, dialler, listener, Connection, connection, sendHeaderTo, receiveHeaderFrom, sendOpenTo, receiveFrame, sendCloseTo, sendSessionFrame, allocate, Answer, channel, Effect, stay, go, Outcome, says, writes, passOn, frameRead, tiedBy, sessionSent, given, released, decide, answered, after, next}
 use Rattle.connection_model.specs.Callers.{areBytes, isSlice, isValid}
 use Rattle.connection_model.proofs.Valid.{both, slice-is, slice-frame, slice-replicate, bytes-replicate, bytes-number}
@@ -86,7 +87,7 @@ unfolding require andThen
 too-long-told true bytes e = refl
 too-long-told false bytes e = refl
 
-pass-told : (f : Frame) (code : ℕ) (o : Option ℕ) → refuses 20 (passOn f code o) ≡ false
+pass-told : (f : Frame) (code : ℕ) (o : Option Tie) → refuses 20 (passOn f code o) ≡ false
 pass-told f p none = refl
 pass-told f p (some h) = refl
 
@@ -172,9 +173,9 @@ transfer-valid n high =
     both (isSlice (transferOf n)) (isSlice space)
     (slice-frame 0 (aTransfer (replicate (n - 15) 0)) (bytes-replicate (n - 15) 0 (omega arith)) (omega (arith, length-replicate {A = ℕ} (n - 15) 0))) space-slice
 
-untied : (role : Role) (h : Option ℕ) → tiedBy role [] h ≡ accept stay
-untied dialler h = refl
-untied listener h = refl
+untied : (role : Role) (ch : ℕ) (h : Option ℕ) → tiedBy role [] ch h ≡ accept stay
+untied dialler ch h = refl
+untied listener ch h = refl
 
 and-true : (b : Bool) → b && true ≡ b
 and-true true = refl
@@ -190,7 +191,7 @@ module _ (role : Role) (S : Settings) (c : Connection) (sends : isOneOf sending 
       require-on 9 (roomFor 0 space) _ space-room
       ∙ then-accept _ (sessionSent role c (transferOf n)) _ (sent-whole 0 (aTransfer t) (omega arith) (omega arith) (S .channelMax) transferred (transfer-session (S .channelMax) t))
       ∙ require-on 20 (isOneOf sending (c .state)) _ sends
-      ∙ then-accept _ _ stay (untied role (c .taken 0))
+      ∙ then-accept _ _ stay (untied role 0 (c .taken 0))
       ∙ rw (transfer-bytes t (omega arith), l)
 
   pub transfer-told : refuses 27 (decide role S c (sendSessionFrame (transferOf n) space)) ≡ not (leb n (c .writingLimit))
@@ -207,7 +208,7 @@ close-next role S l c low =
     ap (λ v. after S v (at OpenReceived l c))
     (then-accept _ (frameRead role S (at OpenReceived l c) 0) _ (read-whole 0 aClose (omega arith) (omega arith) (c .readingLimit) (S .channelMax) _ close-content (omega arith) (omega arith)))
 
--- ---- a tie, by a Detach on its channel
+-- ---- the handle of a tie, by a Detach on its channel
 
 pub detach-read : (role : Role) (S : Settings) (l : Option (List ℕ)) (c : Connection) (n : ℕ) → 512 ≤ c .readingLimit → n ≤ S .channelMax → n < 65536
     → decide role S (at Opened l c) (receiveFrame (frameBytes n aDetach) 0) ≡ passOn (framed 15 n) 22 (c .ties n)
@@ -215,11 +216,11 @@ unfolding require
 detach-read role S l c n low held few =
     then-accept _ (frameRead role S (at Opened l c) 0) _ (read-whole n aDetach (omega arith) (omega arith) (c .readingLimit) (S .channelMax) _ detach-content (omega arith) held)
 
-pub passed-told : (f : Frame) (code : ℕ) (o u : Option ℕ) → answered (passOn f code o) ≡ answered (passOn f code u) → o ≡ u
+pub passed-told : (f : Frame) (code : ℕ) (o u : Option Tie) → answered (passOn f code o) ≡ answered (passOn f code u) → handleOf o ≡ handleOf u
 passed-told f p none none e = refl
-passed-told f p none (some h) e = cc
-passed-told f p (some h) none e = cc
-passed-told f p (some h) (some k) e = cc
+passed-told f p none (some t) e = cc
+passed-told f p (some t) none e = cc
+passed-told f p (some t) (some u) e = let q : t .handle ≡ u .handle = cc in ap some q
 
 -- ---- a taken channel, by deallocating it
 

@@ -14,6 +14,7 @@ use Rattle.frame_decoder.specs.Frame.{Frame, frame, bodyIn, content, readFrame}
 use Rattle.frame_encoder.specs.Frames.{Settings}
 use Rattle.connection_state.specs.States.{State, Discarding, is, isOneOf, along, reading, readOpen, readClose}
 use Rattle.connection_state.proofs.States.{everywhere}
+use Rattle.channels.specs.Ties.{Tie}
 use Rattle.connection_model.specs.Connection.{Role, dialler, listener, Connection, receiveFrame, tieTo, untie, passOn, newSession, begun, sessionRead, performativeRead, frameRead, decide}
 
 -- a verdict accepts, or refuses with a number that passes
@@ -99,17 +100,17 @@ module _ (role : Role) (S : Settings) (c : Connection) where
 
   -- where sessions' frames are read
   module _ (f : Frame) (t : T (isOneOf reading (c .state))) where
-    late-tie : (h : Option ℕ) → Refuses Late (tieTo f h)
-    late-tie none = turns t
-    late-tie (some h) = takes
+    late-tie : (r : ℕ) (o : Option ℕ) → Refuses Late (tieTo f r o)
+    late-tie r none = turns t
+    late-tie r (some h) = takes
 
-    late-untie : (h : Option ℕ) → Refuses Late (untie f h)
+    late-untie : (o : Option Tie) → Refuses Late (untie f o)
     late-untie none = turns t
-    late-untie (some h) = takes
+    late-untie (some u) = takes
 
-    late-pass : (code : ℕ) (h : Option ℕ) → Refuses Late (passOn f code h)
+    late-pass : (code : ℕ) (o : Option Tie) → Refuses Late (passOn f code o)
     late-pass code none = turns t
-    late-pass code (some h) = takes
+    late-pass code (some u) = takes
 
     late-new : (ρ : Role) (h : ℕ) (l : Option (List ℕ)) → Refuses Late (newSession ρ f h l)
     late-new dialler h l = turns t
@@ -119,7 +120,7 @@ module _ (role : Role) (S : Settings) (c : Connection) where
 
     late-begun : (h : ℕ) (rs : List ℕ) → Refuses Late (begun role c f h rs)
     late-begun h [] = late-new role h (c .handOut)
-    late-begun h (r ∷ rs) = late-tie (c .taken r)
+    late-begun h (r ∷ rs) = late-tie r (c .taken r)
 
   late-session : (f : Frame) (h code : ℕ) (rs : List ℕ) → T (not (is Discarding (c .state))) → Refuses Late (sessionRead role c f h code rs)
   late-session f h code rs n =

@@ -14,6 +14,7 @@ use Rattle.frame_decoder.specs.Frame.{Frame, sizeOf, bodyIn, bodyOf, anySize, a
 use Rattle.frame_decoder.proofs.Laws.{frame-was, read-was, body-is}
 use Rattle.frame_encoder.specs.Frames.{Settings}
 use Rattle.connection_state.specs.States.{Discarding, is, isOneOf, along, reading, readOpen, readClose}
+use Rattle.channels.specs.Ties.{Tie}
 use Rattle.connection_model.specs.Connection.{Role, dialler, listener, Connection, receiveFrame, Answer, wrote, stop, header, otherProtocol, nothingToDo, opened, closed, forward, began, channel, freed, Outcome, tieTo, untie, passOn, newSession, begun, sessionRead, performativeRead, frameRead, decide}
 use Rattle.connection_model.proofs.Rules.{Holds, refused, holds, on-require, on-cond, on-any, accepted}
 
@@ -38,15 +39,15 @@ module _ (role : Role) (S : Settings) (c : Connection) (f : Frame) (h : ℕ) whe
   its-own : (f .size ≡ f .size) × (f .from ≡ f .from) × (f .size - f .from ≡ f .size - f .from)
   its-own = (refl, refl, refl)
 
-  on-tie : (o : Option ℕ) → Right (tieTo f o)
-  on-tie none = refused
-  on-tie (some k) = holds its-own
+  on-tie : (r : ℕ) (o : Option ℕ) → Right (tieTo f r o)
+  on-tie r none = refused
+  on-tie r (some k) = holds its-own
 
-  on-untie : (o : Option ℕ) → Right (untie f o)
+  on-untie : (o : Option Tie) → Right (untie f o)
   on-untie none = refused
   on-untie (some k) = holds its-own
 
-  on-pass : (code : ℕ) (o : Option ℕ) → Right (passOn f code o)
+  on-pass : (code : ℕ) (o : Option Tie) → Right (passOn f code o)
   on-pass code none = refused
   on-pass code (some k) = holds its-own
 
@@ -58,7 +59,7 @@ module _ (role : Role) (S : Settings) (c : Connection) (f : Frame) (h : ℕ) whe
 
   on-begun : (rs : List ℕ) → Right (begun role c f h rs)
   on-begun [] = on-new role (c .handOut)
-  on-begun (r ∷ rs) = on-tie (c .taken r)
+  on-begun (r ∷ rs) = on-tie r (c .taken r)
 
   on-session : (code : ℕ) (rs : List ℕ) → Right (sessionRead role c f h code rs)
   on-session code rs =

@@ -19,6 +19,7 @@ use Rattle.session_frame.specs.Session.{sessionBytes}
 use Rattle.connection_state.specs.States.{State, Start, HeaderReceived, HeaderSent, HeaderExchange, OpenPipe, OpenClosePipe, OpenReceived, OpenSent, ClosePipe, Opened, CloseReceived, CloseSent, Discarding, End, numbered, is, isOneOf, Move, _⇒_, along, sendHeader, receiveHeader, receiveOtherHeader, sendOpen, readOpen, sendClose, sendCloseWithError, readClose, reading, sending, beforeOpen, afterOpen, silent}
 use Rattle.connection_state.proofs.States.{is-state}
 pub use Rattle.connection_state.proofs.States.{and-left, and-right, each, everywhere}
+use Rattle.channels.specs.Ties.{Tie, tieOf}
 use Rattle.connection_model.specs.Connection.{Role, dialler, listener, Connection, Call, sendHeaderTo, receiveHeaderFrom, sendOpenTo, receiveFrame, sendCloseTo, sendSessionFrame, allocate, deallocate, tick, Effect, stay, go, agree, take, give, tie, takeAndTie, Outcome, headed, tieTo, untie, passOn, newSession, begun, openRead, sessionRead, performativeRead, frameRead, closes, tiedBy, sessionSent, given, released, decide}
 
 -- ---- the parts of a rule
@@ -203,10 +204,10 @@ lends-any (allocate h) = tt
 lends-any (deallocate ch) = tt
 lends-any (tick out) = tt
 
--- a tie is to a handle that holds a channel, and what is untied was tied
-abbrev pub Holder : Connection → ℕ → Option ℕ → Type 0
-Holder c ch none = (h : ℕ) × (c .ties ch ≡ some h)
-Holder c ch (some h) = (n : ℕ) × (c .taken n ≡ some h)
+-- a tie names a taken channel with its handle, and what is untied was tied
+abbrev pub Holder : Connection → ℕ → Option Tie → Type 0
+Holder c n none = (t : Tie) × (c .ties n ≡ some t)
+Holder c n (some t) = c .taken (t .outgoing) ≡ some (t .handle)
 
 pub record MayAgree (S : Settings) (from to : State) (m w : ℕ) : Type 0 where
   pub first : isOneOf beforeOpen from ≡ true
@@ -216,10 +217,10 @@ pub record MayAgree (S : Settings) (from to : State) (m w : ℕ) : Type 0 where
   pub low : 512 ≤ w
   pub high : w ≤ 16384
 
-pub record MayTie (S : Settings) (c : Connection) (ch : ℕ) (h : Option ℕ) : Type 0 where
+pub record MayTie (S : Settings) (c : Connection) (n : ℕ) (o : Option Tie) : Type 0 where
   pub open-yet : 2 ≤ stage (c .state)
-  pub most : ch ≤ S .channelMax
-  pub holder : Holder c ch h
+  pub most : n ≤ S .channelMax
+  pub holder : Holder c n o
 
 pub record MayTake (H : ℕ → Type 0) (c : Connection) (ch : ℕ) (rest : List ℕ) (h : ℕ) : Type 0 where
   pub next : c .handOut ≡ some (ch ∷ rest)
@@ -231,8 +232,8 @@ Legit H S c (go x) = MayGo (c .state) x
 Legit H S c (agree x m w) = MayAgree S (c .state) x m w
 Legit H S c (take ch rest h) = MayTake H c ch rest h
 Legit H S c (give ch) = (h : ℕ) × (c .taken ch ≡ some h)
-Legit H S c (tie ch h) = MayTie S c ch h
-Legit H S c (takeAndTie ch rest h at) = MayTake H c ch rest h × (2 ≤ stage (c .state)) × (at ≤ S .channelMax)
+Legit H S c (tie n o) = MayTie S c n o
+Legit H S c (takeAndTie ch rest h n) = MayTake H c ch rest h × (2 ≤ stage (c .state)) × (n ≤ S .channelMax)
 
 abbrev pub Lawful : (ℕ → Type 0) → Settings → Connection → Outcome → Type 0
 Lawful H S c o = Legit H S c (o .effect)
@@ -251,17 +252,17 @@ module _ (H : ℕ → Type 0) (role : Role) (S : Settings) (c : Connection) wher
 
   -- a frame that was read
   module _ (f : Frame) (le : f .channel ≤ S .channelMax) where
-    on-tieTo : 2 ≤ stage (c .state) → (r : ℕ) (o : Option ℕ) → c .taken r ≡ o → Fine (tieTo f o)
+    on-tieTo : 2 ≤ stage (c .state) → (r : ℕ) (o : Option ℕ) → c .taken r ≡ o → Fine (tieTo f r o)
     on-tieTo u r none e = refused
-    on-tieTo u r (some h) e = let l : MayTie S c (f .channel) (some h) = record { open-yet = u; most = le; holder = (r, e) } in holds l
+    on-tieTo u r (some h) e = let l : MayTie S c (f .channel) (some (tieOf r h)) = record { open-yet = u; most = le; holder = e } in holds l
 
-    on-untie : 2 ≤ stage (c .state) → (o : Option ℕ) → c .ties (f .channel) ≡ o → Fine (untie f o)
+    on-untie : 2 ≤ stage (c .state) → (o : Option Tie) → c .ties (f .channel) ≡ o → Fine (untie f o)
     on-untie u none e = refused
-    on-untie u (some h) e = let l : MayTie S c (f .channel) none = record { open-yet = u; most = le; holder = (h, e) } in holds l
+    on-untie u (some t) e = let l : MayTie S c (f .channel) none = record { open-yet = u; most = le; holder = (t, e) } in holds l
 
-    on-passOn : (code : ℕ) (o : Option ℕ) → Fine (passOn f code o)
+    on-passOn : (code : ℕ) (o : Option Tie) → Fine (passOn f code o)
     on-passOn code none = refused
-    on-passOn code (some h) = holds tt
+    on-passOn code (some t) = holds tt
 
     on-newSession : (ρ : Role) → 2 ≤ stage (c .state) → (h : ℕ) → H h → (l : Option (List ℕ)) → c .handOut ≡ l → Fine (newSession ρ f h l)
     on-newSession dialler u h k l e = refused
@@ -307,12 +308,12 @@ module _ (H : ℕ → Type 0) (role : Role) (S : Settings) (c : Connection) wher
   on-closes (some e) = on-along onward sendCloseWithError tt (c .state)
 
   -- a session's frame that is sent
-  on-tiedBy : (ρ : Role) (rs : List ℕ) → T (within (S .channelMax) rs) → 2 ≤ stage (c .state) → (n : ℕ) (o : Option ℕ) → c .taken n ≡ o → Holds (Legit H S c) (tiedBy ρ rs o)
+  on-tiedBy : (ρ : Role) (rs : List ℕ) → T (within (S .channelMax) rs) → 2 ≤ stage (c .state) → (n : ℕ) (o : Option ℕ) → c .taken n ≡ o → Holds (Legit H S c) (tiedBy ρ rs n o)
   on-tiedBy dialler rs t u n o e = holds tt
   on-tiedBy listener [] t u n o e = holds tt
   on-tiedBy listener (r ∷ rs) t u n none e = refused
   on-tiedBy listener (r ∷ rs) t u n (some h) e =
-      let l : MayTie S c r (some h) = record { open-yet = u; most = leb→le _ _ (and-left (leb r (S .channelMax)) (within (S .channelMax) rs) t); holder = (n, e) } in
+      let l : MayTie S c r (some (tieOf n h)) = record { open-yet = u; most = leb→le _ _ (and-left (leb r (S .channelMax)) (within (S .channelMax) rs) t); holder = e } in
       holds l
 
   on-sent : (s : List ℕ) (r : Frame × Performative) → NamesWithin (S .channelMax) (r .1) → Fine (sessionSent role c s r)

@@ -19,7 +19,7 @@ use Rattle.connection_model.specs.Connection.{Role, Connection, fresh, C
 use Rattle.connection_model.specs.Account.{account}
 use Rattle.connection_model.specs.Callers.{Valid}
 use Rattle.connection_model.specs.Sound.{Reached}
-use Rattle.connection_model.proofs.Invariant.{reached, reading-within, writing-within, tied-within, taken-within}
+use Rattle.connection_model.proofs.Invariant.{reached, reading-within, writing-within, tied-within, tied-through, taken-within}
 use Rattle.connection_model.proofs.Forward.{forward-run}
 use Rattle.connection_model.proofs.Apart.{Reachable, apart}
 
@@ -34,6 +34,7 @@ reachable S ok c r =
       writing-high = writing-within r .1;
       taken-in = λ n h e. let t = taken-within r n h e in omega (arith, t .2, t .3);
       ties-in = tied-within r;
+      ties-through = tied-through r;
     }
 
 pub account-theorem :

@@ -1,4 +1,4 @@
--- The account of a connection, exactly as document 01 reads it off ("The account").
+-- The account of a connection, exactly as document 01 reads it off ("The account"), with the outgoing channel of each tie (document 02, wish 7).
 -- Assumes nothing: these are definitions.
 use mathlib.Core.Bool.{Bool, true, false}
 use mathlib.Core.List.{List, [], _∷_}
@@ -6,6 +6,7 @@ use mathlib.Core.Option.{Option, none, some}
 use Prim.Native.Nat.{ℕ}
 use Rattle.connection_state.specs.States.{State, OpenReceived, Opened, CloseReceived, is, isOneOf}
 use Rattle.channels.specs.Numbers.{Map}
+use Rattle.channels.specs.Ties.{Ties}
 use Rattle.connection_model.specs.Connection.{Connection}
 
 abbrev pub when : {A : Type 0} → Bool → A → Option A
@@ -22,7 +23,7 @@ pub record Account : Type 0 where
   pub taken : Map
   pub writingLimit : Option ℕ
   pub handOut : Option (Option (List ℕ))
-  pub ties : Option Map
+  pub ties : Option Ties
 
 abbrev pub account : Connection → Account
 account c = record {

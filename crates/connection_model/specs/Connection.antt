@@ -1,4 +1,5 @@
--- A connection: its settings and role, what it holds, its calls, and for each call what it answers, does and writes (document 01, "The connection's calls" and "Channel numbers").
+-- A connection: its settings and role, what it holds, its calls, and for each call what it answers, does and writes (document 01, "The connection's calls" and "Channel numbers";
+-- document 02, wish 7: a tie goes with the channel through which it was made).
 -- Calls carry what a caller passes: bytes, numbers, and the lent output with the bytes that stand there. A rule is a verdict: a refusal, or an outcome.
 -- Assumes nothing: these are definitions.
 use mathlib.Core.Bool.{Bool, true, false, cond, not}
@@ -15,6 +16,7 @@ use Rattle.frame_decoder.specs.Frame.{Frame, readFrame, sessionFrame, beginsFor
 use Rattle.frame_encoder.specs.Frames.{Settings, ErrorText, frameBytes, limited, openBody, closeOk, closeBody}
 use Rattle.session_frame.specs.Session.{sessionBytes}
 use Rattle.channels.specs.Numbers.{Map, nowhere, with, upFrom, freedFirst}
+use Rattle.channels.specs.Ties.{Tie, tieOf, Ties, dropped}
 use Rattle.connection_state.specs.States.{State, Start, Discarding, End, is, isOneOf, along, sendHeader, receiveHeader, receiveOtherHeader, sendOpen, readOpen, sendClose, sendCloseWithError, readClose, reading, sending, stopped, silent}
 
 -- ---- what a connection is made with, and what it holds
@@ -30,7 +32,7 @@ pub record Connection : Type 0 where
   pub agreedMax : Option ℕ
   pub handOut : Option (List ℕ)
   pub taken : Map
-  pub ties : Map
+  pub ties : Ties
 
 abbrev pub fresh : Connection
 fresh = record { state = Start; readingLimit = 512; writingLimit = 512; agreedMax = none; handOut = none; taken = nowhere; ties = nowhere }
@@ -76,8 +78,9 @@ pub data Effect : Type 0 where
   -- a channel, what is left of the hand-out list, and the handle
   take : ℕ → List ℕ → ℕ → Effect
   give : ℕ → Effect
-  -- an incoming channel, to a handle or to none
-  tie : ℕ → Option ℕ → Effect
+  -- an incoming channel gets this tie, or none
+  tie : ℕ → Option Tie → Effect
+  -- take, and an incoming channel that is tied through the channel taken
   takeAndTie : ℕ → List ℕ → ℕ → ℕ → Effect
 
 pub record Outcome : Type 0 where
@@ -91,7 +94,7 @@ says a e = accept (record { answer = a; effect = e; bytes = [] })
 abbrev pub writes : List ℕ → Effect → Verdict Outcome
 writes bytes e = accept (record { answer = wrote (length bytes); effect = e; bytes = bytes })
 
-abbrev pub connection : State → ℕ → ℕ → Option ℕ → Option (List ℕ) → Map → Map → Connection
+abbrev pub connection : State → ℕ → ℕ → Option ℕ → Option (List ℕ) → Map → Ties → Connection
 connection x r w m l tk ti = record { state = x; readingLimit = r; writingLimit = w; agreedMax = m; handOut = l; taken = tk; ties = ti }
 
 abbrev pub apply : Settings → Effect → Connection → Connection
@@ -99,10 +102,10 @@ apply S stay c = c
 apply S (go x) c = connection x (c .readingLimit) (c .writingLimit) (c .agreedMax) (c .handOut) (c .taken) (c .ties)
 apply S (agree x m w) c = connection x (S .maxFrameSize) w (some m) (some (upFrom 0 (suc m))) (c .taken) (c .ties)
 apply S (take ch rest h) c = connection (c .state) (c .readingLimit) (c .writingLimit) (c .agreedMax) (some rest) (with (c .taken) ch (some h)) (c .ties)
-apply S (give ch) c = connection (c .state) (c .readingLimit) (c .writingLimit) (c .agreedMax) (freedFirst ch (c .handOut)) (with (c .taken) ch none) (c .ties)
-apply S (tie ch h) c = connection (c .state) (c .readingLimit) (c .writingLimit) (c .agreedMax) (c .handOut) (c .taken) (with (c .ties) ch h)
-apply S (takeAndTie ch rest h at) c =
-    connection (c .state) (c .readingLimit) (c .writingLimit) (c .agreedMax) (some rest) (with (c .taken) ch (some h)) (with (c .ties) at (some h))
+apply S (give ch) c = connection (c .state) (c .readingLimit) (c .writingLimit) (c .agreedMax) (freedFirst ch (c .handOut)) (with (c .taken) ch none) (dropped ch (c .ties))
+apply S (tie n t) c = connection (c .state) (c .readingLimit) (c .writingLimit) (c .agreedMax) (c .handOut) (c .taken) (with (c .ties) n t)
+apply S (takeAndTie ch rest h n) c =
+    connection (c .state) (c .readingLimit) (c .writingLimit) (c .agreedMax) (some rest) (with (c .taken) ch (some h)) (with (c .ties) n (some (tieOf ch h)))
 
 -- ---- the rules
 
@@ -125,18 +128,18 @@ hasError (place ∷ l) = true
 abbrev pub forwarded : Frame → ℕ → ℕ → Answer
 forwarded f code h = forward (f .size) code h (f .from) (f .size - f .from)
 
--- a Begin's channel is tied, an End's untied, and what comes between passed on
-abbrev pub tieTo : Frame → Option ℕ → Verdict Outcome
-tieTo f none = refuse 24
-tieTo f (some h) = says (forwarded f 17 h) (tie (f .channel) (some h))
+-- a Begin's channel is tied through the outgoing channel r, if a handle holds it; an End's is untied, and what comes between passed on
+abbrev pub tieTo : Frame → ℕ → Option ℕ → Verdict Outcome
+tieTo f r none = refuse 24
+tieTo f r (some h) = says (forwarded f 17 h) (tie (f .channel) (some (tieOf r h)))
 
-abbrev pub untie : Frame → Option ℕ → Verdict Outcome
+abbrev pub untie : Frame → Option Tie → Verdict Outcome
 untie f none = refuse 24
-untie f (some h) = says (forwarded f 23 h) (tie (f .channel) none)
+untie f (some t) = says (forwarded f 23 (t .handle)) (tie (f .channel) none)
 
-abbrev pub passOn : Frame → ℕ → Option ℕ → Verdict Outcome
+abbrev pub passOn : Frame → ℕ → Option Tie → Verdict Outcome
 passOn f code none = refuse 24
-passOn f code (some h) = says (forwarded f code h) stay
+passOn f code (some t) = says (forwarded f code (t .handle)) stay
 
 abbrev pub newSession : Role → Frame → ℕ → Option (List ℕ) → Verdict Outcome
 newSession dialler f h l = refuse 25
@@ -147,7 +150,7 @@ newSession listener f h (some (ch ∷ rest)) = says (began (f .size) ch h (f .fr
 -- a Begin that answers one of ours names its channel; one without begins a session
 abbrev pub begun : Role → Connection → Frame → ℕ → List ℕ → Verdict Outcome
 begun role c f h [] = newSession role f h (c .handOut)
-begun role c f h (r ∷ l) = tieTo f (c .taken r)
+begun role c f h (r ∷ l) = tieTo f r (c .taken r)
 
 -- the peer's max-frame-size, channel-max and idle-time-out
 abbrev pub openRead : Settings → Connection → Frame → ℕ → ℕ → ℕ → Verdict Outcome
@@ -182,17 +185,17 @@ abbrev pub closes : Option ErrorText → State → Verdict State
 closes none x = along sendClose x
 closes (some e) x = along sendCloseWithError x
 
--- a listener's Begin that names a remote-channel ties it to the sender's handle
-abbrev pub tiedBy : Role → List ℕ → Option ℕ → Verdict Effect
-tiedBy dialler rs h = accept stay
-tiedBy listener [] h = accept stay
-tiedBy listener (r ∷ rs) none = refuse 24
-tiedBy listener (r ∷ rs) (some h) = accept (tie r (some h))
+-- a listener's Begin on a channel, that names a remote-channel, ties it through this channel to the handle that holds it
+abbrev pub tiedBy : Role → List ℕ → ℕ → Option ℕ → Verdict Effect
+tiedBy dialler rs ch h = accept stay
+tiedBy listener [] ch h = accept stay
+tiedBy listener (r ∷ rs) ch none = refuse 24
+tiedBy listener (r ∷ rs) ch (some h) = accept (tie r (some (tieOf ch h)))
 
 abbrev pub sessionSent : Role → Connection → List ℕ → Frame × Performative → Verdict Outcome
 sessionSent role c s r =
     onlyIn sending (c .state) (λ _.
-    andThen (tiedBy role (beginsFor (eqb (r .1 .code) 17) (r .1)) (c .taken (r .0 .channel))) (λ e.
+    andThen (tiedBy role (beginsFor (eqb (r .1 .code) 17) (r .1)) (r .0 .channel) (c .taken (r .0 .channel))) (λ e.
     andThen (limited (c .writingLimit) (sessionBytes s r)) (λ bytes.
     writes bytes e)))
 

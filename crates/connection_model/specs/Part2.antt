@@ -12,6 +12,7 @@ use Rattle.protocol_header.specs.Header.{version100, headerBytes}
 use Rattle.frame_encoder.specs.Frames.{Settings, ErrorText, frameBytes, openBody, closeBody}
 use Rattle.connection_state.specs.States.{State, Start, HeaderReceived, HeaderSent, HeaderExchange, OpenPipe, OpenClosePipe, OpenReceived, OpenSent, ClosePipe, Opened, CloseReceived, CloseSent, Discarding, End, numbered, states, Move, _⇒_, along}
 use Rattle.channels.specs.Numbers.{nowhere, with}
+use Rattle.channels.specs.Ties.{tieOf}
 use Rattle.connection_model.specs.Connection.{dialler, Connection, connection, Call, sendHeaderTo, receiveHeaderFrom, sendOpenTo, receiveFrame, sendCloseTo, sendSessionFrame, tick, Outcome, apply, decide}
 
 -- ---- Part 2
@@ -126,7 +127,7 @@ settings = record { containerId = []; maxFrameSize = 512; channelMax = 0; idleTi
 
 -- channel 0 is taken and tied, so that nothing but the state can refuse
 abbrev pub standing : State → Connection
-standing x = connection x 512 512 (some 0) (some []) (with nowhere 0 (some 1)) (with nowhere 0 (some 1))
+standing x = connection x 512 512 (some 0) (some []) (with nowhere 0 (some 1)) (with nowhere 0 (some (tieOf 0 1)))
 
 -- a Detach of handle 0, on channel 0
 abbrev pub detach : List ℕ

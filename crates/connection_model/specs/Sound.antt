@@ -7,6 +7,7 @@ use Prim.Native.Nat.{ℕ, _≤_}
 use Rattle.frame_encoder.specs.Frames.{Settings}
 use Rattle.connection_state.specs.States.{OpenReceived, is, isOneOf, beforeOpen, afterOpen}
 use Rattle.channels.specs.Numbers.{Map, nowhere, Shared}
+use Rattle.channels.specs.Ties.{Tie, Ties}
 use Rattle.connection_model.specs.Connection.{Connection, fresh, go, apply}
 
 -- without the peer's Open nothing is agreed, and everything but the state is as it was at first
@@ -14,8 +15,12 @@ pub record Unopened (S : Settings) (c : Connection) : Type 0 where
   pub stands : isOneOf afterOpen (c .state) ≡ false
   pub at-first : c ≡ apply S (go (c .state)) fresh
 
-abbrev pub TiedWithin : ℕ → Map → Type 0
-TiedWithin m ties = (n h : ℕ) → ties n ≡ some h → n ≤ m
+abbrev pub TiedWithin : ℕ → Ties → Type 0
+TiedWithin m ties = (n : ℕ) (t : Tie) → ties n ≡ some t → n ≤ m
+
+-- each tie names a taken channel, with its handle
+abbrev pub TiedThrough : Map → Ties → Type 0
+TiedThrough taken ties = (n : ℕ) (t : Tie) → ties n ≡ some t → taken (t .outgoing) ≡ some (t .handle)
 
 -- with it, m is the agreed channel-max
 pub record Agreed (S : Settings) (m : ℕ) (c : Connection) : Type 0 where
@@ -26,6 +31,7 @@ pub record Agreed (S : Settings) (m : ℕ) (c : Connection) : Type 0 where
   pub writing-high : c .writingLimit ≤ 16384
   pub shared : Shared (some m) (c .handOut) (c .taken)
   pub tied : TiedWithin (S .channelMax) (c .ties)
+  pub through : TiedThrough (c .taken) (c .ties)
   -- ties come after both Opens
   pub untied : is OpenReceived (c .state) ≡ true → c .ties ≡ nowhere
 

@@ -2,7 +2,7 @@
 -- Assumes nothing.
 use mathlib.Core.Path.{_≡_, refl, sym, _∙_, ap, subst}
 use mathlib.Core.List.{List}
-use mathlib.Core.Option.{Option}
+use mathlib.Core.Option.{Option, some}
 use Prim.Native.Nat.{ℕ, suc, _<_}
 use native.Mathlib.Omega.{arith}
 use Rattle.octets.specs.Verdict.{Verdict, refuse, accept}
@@ -10,11 +10,13 @@ use Rattle.connection_state.specs.States.{State}
 use Rattle.connection_model.specs.Connection.{Answer, Outcome, connection, apply, tie, answered, after}
 use Rattle.channels.specs.Numbers.{Map}
 use Rattle.channels.specs.Channels.{agreedSays}
-use Rattle.channels.specs.Ties.{Changes}
+use Rattle.channels.specs.Ties.{Tie, Ties}
+use Rattle.channels.specs.Lists.{LowTie, Changes}
 use Rattle.channels.proofs.Limits.{apart}
-use Rattle.channels.proofs.Kept.{covers-kept, hand-out-kept, taken-kept, numbers-kept}
+use Rattle.channels.proofs.Kept.{hand-out-kept, taken-kept, numbers-kept}
+use Rattle.channels.proofs.Laws.{taken-low}
 use Rattle.endpoint.specs.declared.Endpoint.{Endpoint}
-use Rattle.endpoint.specs.Answers.{Whole, whole, settingsOf, placesOf, viewAs}
+use Rattle.endpoint.specs.Answers.{Whole, whole, settingsOf, placesOf, takenOf, viewAs}
 use Rattle.endpoint.specs.Promises.{Sound, Same, Step}
 
 abbrev pub agreedOf : Whole → Option ℕ
@@ -23,7 +25,7 @@ agreedOf w = agreedSays (w .endpoint .outgoing)
 -- ---- what stays
 
 pub alike :
-    (x : State) {r r′ w w′ : ℕ} {a a′ : Option ℕ} {l l′ : Option (List ℕ)} {f f′ g g′ : Map}
+    (x : State) {r r′ w w′ : ℕ} {a a′ : Option ℕ} {l l′ : Option (List ℕ)} {f f′ : Map} {g g′ : Ties}
     → r ≡ r′ → w ≡ w′ → a ≡ a′ → l ≡ l′ → f ≡ f′ → g ≡ g′ → connection x r w a l f g ≡ connection x r′ w′ a′ l′ f′ g′
 alike x p q s t u v = λ i. connection x (p i) (q i) (s i) (t i) (u i) (v i)
 
@@ -77,17 +79,26 @@ same-rule p s = rw p s
 
 -- ---- an incoming channel has another tie, or none
 
-module _ (e : Endpoint) (t t′ id : List ℕ) (k : ℕ) (v : Option ℕ) (l : k < placesOf e) (c : Changes k v t t′) where
+-- a taken channel is one of those that the peer may use
+pub taken-within : (w : Whole) → Sound w → (ch h : ℕ) → takenOf w ch ≡ some h → ch < placesOf (w .endpoint)
+taken-within w i ch h e = omega (arith, taken-low (w .endpoint .outgoing) (w .tables) (i .numbers) ch h e, i .most)
+
+module _
+    (e : Endpoint) (t t′ id : List ℕ) {m : ℕ} (k : ℕ) (v : Option Tie) (own : m ≡ e .«local_open» .«channel_max») (l : k < placesOf e)
+    (low : Sound (whole e t id) → LowTie (placesOf e) v) (changed : Changes (suc m) k v t t′) where
+  c : Changes (placesOf e) k v t t′
+  c = subst (λ n. Changes (suc n) k v t t′) own changed
+
   pub retied : Sound (whole e t id) → (x : State) → viewAs x (whole e t′ id) ≡ apply (settingsOf (whole e t id)) (tie k v) (viewAs x (whole e t id))
   retied i x =
-      alike x refl refl refl (hand-out-kept (suc k) (e .outgoing) t t′ (c .numbers)) (taken-kept (suc k) (e .outgoing) t t′ (c .numbers))
-      (c .changes (placesOf e) l (i .covered))
+      alike x refl refl refl (hand-out-kept (placesOf e) (e .outgoing) t t′ (c .numbers)) (taken-kept (placesOf e) (e .outgoing) t t′ (c .numbers))
+      (c .changes l (low i) (i .listed) .says)
 
   pub retied-sound : Sound (whole e t id) → Sound (whole e t′ id)
   retied-sound i = record {
-    covered = covers-kept (placesOf e) t t′ (c .numbers .long) (i .covered);
+    listed = c .changes l (low i) (i .listed) .listed;
     most = i .most;
-    numbers = numbers-kept (suc k) (e .outgoing) t t′ (c .numbers) (i .numbers);
+    numbers = numbers-kept (placesOf e) (e .outgoing) t t′ (c .numbers) (i .numbers);
   }
 
   pub retied-same : Same (whole e t id) (whole e t′ id)

@@ -15,13 +15,14 @@ use Rattle.connection_model.specs.Connection.{Connection}
 use Rattle.connection_model.specs.Sound.{Reached}
 use Rattle.channels.specs.Numbers.{takenBelow}
 use Rattle.channels.specs.Places.{covers}
+use Rattle.channels.specs.Ties.{handleOf}
 use Rattle.channels.specs.Channels.{heldSays, agreedMaxSays, agreedSays, countsOk, Finds}
+use Rattle.channels.specs.Lists.{FindsTied}
 use Rattle.channels.specs.declared.OutgoingChannels.{OutgoingChannels}
 use Rattle.channels.specs.declared.Held.{Held}
 use Rattle.channels.specs.declared.AgreedMax.{AgreedMax}
 use Rattle.channels.specs.declared.AgreedMax.the-variants as A
 use Rattle.channels.proofs.Limits.{apart, closed-limits}
-use Rattle.channels.proofs.Tying.{FindsTie}
 use Rattle.channels.proofs.Steps.{counted}
 use Rattle.local_open.specs.declared.LocalOpen.{LocalOpen}
 use Rattle.local_open.specs.Settings.{openSays}
@@ -40,9 +41,9 @@ module _ (e : Endpoint) where
   handle-found t channel r f id i = f .finds (i .numbers)
 
   pub tie-found :
-      (t : List ℕ) (channel : ℕ) (r : Held) (highest : ℕ) → highest ≡ e .«local_open» .«channel_max» → FindsTie (suc highest) t channel r
-      → (id : List ℕ) → Sound (whole e t id) → heldSays r ≡ tiesOf (whole e t id) channel
-  tie-found t channel r highest m f id i = subst (λ n. FindsTie (suc n) t channel r) m f (i .covered)
+      (t : List ℕ) (channel : ℕ) (r : Held) (highest : ℕ) → highest ≡ e .«local_open» .«channel_max» → FindsTied (suc highest) t channel r
+      → (id : List ℕ) → Sound (whole e t id) → heldSays r ≡ handleOf (tiesOf (whole e t id) channel)
+  tie-found t channel r highest m f id i = subst (λ n. FindsTied (suc n) t channel r) m f (i .listed .covered)
 
   pub sessions-counted : (r : ℕ) → r ≡ e .outgoing .used - e .outgoing .freed → (t id : List ℕ) → Sound (whole e t id) → r ≡ takenBelow (placesOf e) (takenOf (whole e t id))
   sessions-counted r f t id i = f ∙ counted (e .outgoing) t (i .numbers) (placesOf e) (i .most)

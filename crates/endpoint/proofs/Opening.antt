@@ -11,10 +11,10 @@ use Rattle.connection_state.specs.States.{State, Start}
 use Rattle.connection_model.specs.Connection.{agree, apply, clamped, fresh}
 use Rattle.channels.specs.Places.{Covers, past}
 use Rattle.channels.specs.Channels.{agreedSays, unopened, openedTo}
-use Rattle.channels.specs.Ties.{Clears}
+use Rattle.channels.specs.Lists.{Clears}
 use Rattle.channels.specs.declared.OutgoingChannels.{OutgoingChannels}
 use Rattle.channels.proofs.Limits.{apart}
-use Rattle.channels.proofs.Kept.{covers-kept, covers-fewer}
+use Rattle.channels.proofs.Kept.{covers-fewer}
 use Rattle.channels.proofs.Sounds.{nothing-taken}
 use Rattle.channels.proofs.Opening as C
 use Rattle.local_open.specs.declared.LocalOpen.{LocalOpen}
@@ -47,9 +47,9 @@ begins role local t t′ e p = subst (λ x. Begins role local t x t′) (sym (p 
   begins-role = refl;
   begins-open = refl;
   begins-counted = (f .within, omega (arith, f .lowest));
-  begins-fresh = λ i id. alike Start refl refl (f .agreed) (f .hand-out t′) (f .taken t′) (c .clears i);
+  begins-fresh = λ i id. alike Start refl refl (f .agreed) (f .hand-out t′) (f .taken t′) (c .clears i .says);
   begins-sound = λ i id. record {
-    covered = covers-kept (suc (local .«channel_max»)) t t′ (c .numbers .long) i;
+    listed = c .clears i .listed;
     most = omega (arith, f .lowest);
     numbers = f .sound t′ (omega (arith, c .numbers .long));
   };
@@ -118,9 +118,9 @@ module _ (e : Endpoint) (size most : ℕ) where
     agrees-sound = λ i a.
         let d = not-come (e .outgoing) a in
         record {
-          covered = i .covered;
+          listed = i .listed;
           most = agreed-counted false d (i .most);
-          numbers = c .sound d t (covers-fewer (suc h) (placesOf e) t agreed-low (i .covered));
+          numbers = c .sound d t (covers-fewer (suc h) (placesOf e) t agreed-low (i .listed .covered));
         };
     agrees-same = record {
       same-role = refl;

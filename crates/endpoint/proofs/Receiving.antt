@@ -1,15 +1,15 @@
 -- What each return of the calls that allocate, deallocate and receive shows, with the facts as they come.
 -- Assumes nothing.
-use mathlib.Core.Path.{_≡_, refl, sym, _∙_, ap}
+use mathlib.Core.Path.{_≡_, refl, sym, _∙_, ap, subst}
 use mathlib.Core.Bool.{Bool, true, false, cond}
 use mathlib.Core.List.{List, [], _∷_}
 use mathlib.Core.Option.{Option, none, some}
-use Prim.Native.Nat.{ℕ, _-_, _≤_, _<_}
+use Prim.Native.Nat.{ℕ, suc, _-_, _≤_, _<_}
 use native.Mathlib.Omega.{arith}
 use types.Run.{OneOf, miss}
 use denote.Enum.Declared.{tagOf}
 use lib.Dec.{leb, eqb}
-use borrow.Author.Tests.{le-leb, lt-leb}
+use borrow.Author.Tests.{le-leb, lt-leb, eq-eqb}
 use Rattle.octets.specs.Verdict.{Verdict, refuse, accept, require}
 use Rattle.octets.proofs.Laws.{require-on, require-off}
 use Rattle.performatives.specs.declared.RemoteChannel.{RemoteChannel}
@@ -21,9 +21,10 @@ use Rattle.frame_decoder.specs.Frame.{Frame}
 use Rattle.connection_state.specs.States.{State, Opened, isOneOf, reading}
 use Rattle.connection_state.specs.declared.ConnectionState.{ConnectionState}
 use Rattle.connection_state.specs.Answers.{stateSays}
-use Rattle.connection_model.specs.Connection.{Answer, Outcome, apply, take, tie, forwarded, began, given, released, begun, newSession, tieTo, untie, passOn, sessionRead}
+use Rattle.connection_model.specs.Connection.{Answer, Outcome, says, apply, stay, take, tie, forwarded, began, given, released, begun, newSession, tieTo, untie, passOn, sessionRead}
 use Rattle.channels.specs.Channels.{heldSays, allocatedSays, nextOf, Allocates, Frees}
-use Rattle.channels.specs.Ties.{Changes}
+use Rattle.channels.specs.Ties.{Tie, tieOf, handleOf, dropped}
+use Rattle.channels.specs.Lists.{LowTie, Changes, Drops}
 use Rattle.channels.specs.declared.Held.{Held}
 use Rattle.channels.specs.declared.Held.the-variants.{Handle, Nothing}
 use Rattle.channels.specs.declared.OutgoingChannels.{OutgoingChannels}
@@ -33,7 +34,7 @@ use Rattle.channels.specs.declared.Allocation.{Allocation}
 use Rattle.channels.specs.declared.Deallocation.{Deallocation}
 use Rattle.channels.proofs.Allocated.{the-type}
 use Rattle.channels.proofs.Limits.{apart}
-use Rattle.channels.proofs.Kept.{covers-kept, ties-kept}
+use Rattle.channels.proofs.Kept.{ties-kept, listed-kept, hand-out-kept, taken-kept, numbers-kept}
 use Rattle.channels.proofs.Laws.{next-starts}
 use Rattle.endpoint.specs.declared.Role.{Role}
 use Rattle.endpoint.specs.declared.Role.the-variants.{Dialler, Listener}
@@ -44,7 +45,7 @@ use Rattle.endpoint.specs.declared.FrameAnswer.the-variants.{Refused}
 use Rattle.endpoint.specs.declared.Routed.{Routed}
 use Rattle.endpoint.specs.Answers.{Whole, whole, roleSays, roleOf, settingsOf, placesOf, handOutOf, takenOf, tiesOf, viewAs, frameOf, answerSays, allocateSays, deallocateSays}
 use Rattle.endpoint.specs.Promises.{Sound, Same, Step, Steps, endpointOf}
-use Rattle.endpoint.proofs.Basics.{alike, same-all, stays, moves, moves-as, same-rule, retied, retied-sound, retied-same}
+use Rattle.endpoint.proofs.Basics.{alike, same-all, stays, moves, moves-as, same-rule, taken-within, retied, retied-sound, retied-same}
 
 -- ---- endpoints
 
@@ -85,7 +86,7 @@ module _ (e : Endpoint) (t : List ℕ) (h : ℕ) (r : Allocation) (t′ : List �
 
     taken-sound : Sound (whole (counting e (r .channels)) t′ id)
     taken-sound = record {
-      covered = covers-kept (placesOf e) t t′ (p .ties .long) (i .covered);
+      listed = listed-kept (placesOf e) (e .outgoing) t t′ (p .ties) (i .listed);
       most = omega (arith, p .same-highest, i .most);
       numbers = p .keeps (i .numbers) ch rest q .sound;
     }
@@ -112,38 +113,44 @@ module _ (e : Endpoint) (t : List ℕ) (h : ℕ) (r : Allocation) (t′ : List �
 
 -- ---- deallocate
 
-module _ (e : Endpoint) (t : List ℕ) (ch : ℕ) (r : Deallocation) (t′ : List ℕ) (p : Frees (e .outgoing) t ch r t′) where
-  freed-same : (id : List ℕ) → Same (whole e t id) (whole (counting e (r .channels)) t′ id)
-  freed-same id = record {
-    same-role = refl;
-    same-settings = refl;
-    same-long = p .long;
-    same-past = λ c. p .ties (c .0) .rest (placesOf e) (c .1);
-    still-counted = λ c. (p .within (c .0), omega (arith, p .same-highest, c .1));
-  }
-
-  deallocated-as : (a : Held) → r .answer ≡ a → Steps (λ w. released ch (takenOf w ch)) e t (deallocateSays (r .answer)) (counting e (r .channels)) t′
-  deallocated-as Nothing q id =
+module _ (e : Endpoint) (t : List ℕ) (ch : ℕ) {r : Deallocation} {t′ : List ℕ} (p : Frees (e .outgoing) t ch r t′) where
+  pub not-deallocated : r .answer ≡ Nothing → Steps (λ w. released ch (takenOf w ch)) e t (deallocateSays Nothing) e t′
+  not-deallocated q id =
       let z = p .refused (ap heldSays q) in
-      stays (λ i. ap (released ch) (sym (p .answers (i .numbers)) ∙ ap heldSays q)) (ap deallocateSays q) (λ j. whole (counting e (z .0 j)) (z .1 j) id)
-  deallocated-as (Handle h) q id =
-      moves-as (ap deallocateSays q) (λ i.
+      stays (λ i. ap (released ch) (sym (p .answers (i .numbers)) ∙ ap heldSays q)) refl (λ j. whole e (z .1 j) id)
+
+  -- the number is freed, and then the ties through it are dropped
+  pub deallocated :
+      {h : ℕ} → r .answer ≡ Handle h → {m : ℕ} → m ≡ e .«local_open» .«channel_max» → {t″ : List ℕ} → Drops (suc m) ch t′ t″
+      → Steps (λ w. released ch (takenOf w ch)) e t (deallocateSays (Handle h)) (counting e (r .channels)) t″
+  deallocated {h} q {m} own {t″} drops id =
+      moves-as refl (λ i.
       let s : takenOf (whole e t id) ch ≡ some h = sym (p .answers (i .numbers)) ∙ ap heldSays q in
       let b = p .keeps (i .numbers) h s in
+      let kept = p .ties (i .numbers .within) in
+      let left = d .drops (listed-kept (placesOf e) (e .outgoing) t t′ kept (i .listed)) in
       record {
         outcome = _;
         accepts = ap (released ch) s;
-        answers = ap deallocateSays q;
-        view = λ x. alike x refl refl (b .agreed) (b .hand-out) (b .taken) (ties-kept (placesOf e) (e .outgoing) t t′ (p .ties (i .numbers .within)));
+        answers = refl;
+        view = λ x.
+            alike x refl refl (b .agreed) (hand-out-kept (placesOf e) (r .channels) t′ t″ (d .numbers) ∙ b .hand-out) (taken-kept (placesOf e) (r .channels) t′ t″ (d .numbers) ∙ b .taken)
+            (left .says ∙ ap (dropped ch) (ties-kept (placesOf e) (e .outgoing) t t′ kept));
         still-sound = record {
-          covered = covers-kept (placesOf e) t t′ (p .long) (i .covered);
+          listed = left .listed;
           most = omega (arith, p .same-highest, i .most);
-          numbers = b .sound;
+          numbers = numbers-kept (placesOf e) (r .channels) t′ t″ (d .numbers) (b .sound);
         };
-      }) (freed-same id)
-
-  pub deallocated : Steps (λ w. released ch (takenOf w ch)) e t (deallocateSays (r .answer)) (counting e (r .channels)) t′
-  deallocated = deallocated-as (r .answer) refl
+      }) (record {
+        same-role = refl;
+        same-settings = refl;
+        same-long = d .numbers .long ∙ p .long;
+        same-past = λ c. d .numbers .rest (placesOf e) (omega arith) ∙ p .ties (c .0) .rest (placesOf e) (c .1);
+        still-counted = λ c. (p .within (c .0), omega (arith, p .same-highest, c .1));
+      })
+    where
+      d : Drops (placesOf e) ch t′ t″
+      d = subst (λ n. Drops (suc n) ch t′ t″) own drops
 
 -- ---- a frame that is refused, passed on, tied or untied
 
@@ -152,8 +159,25 @@ abbrev pub Found : Endpoint → List ℕ → (Whole → Option ℕ) → Held →
 Found e t f a = (id : List ℕ) → Sound (whole e t id) → heldSays a ≡ f (whole e t id)
 
 -- the tie of a frame's channel
-abbrev pub tieAt : Incoming → Whole → Option ℕ
+abbrev pub tieAt : Incoming → Whole → Option Tie
 tieAt f w = tiesOf w (f .channel)
+
+-- what a tie comes to, by its handle
+passes-not : (f : Frame) (code : ℕ) (o : Option Tie) → handleOf o ≡ none → passOn f code o ≡ refuse 24
+passes-not f code none e = refl
+passes-not f code (some t) e = apart (cc)
+
+passes : (f : Frame) (code h : ℕ) (o : Option Tie) → handleOf o ≡ some h → passOn f code o ≡ says (forwarded f code h) stay
+passes f code h none e = apart (cc)
+passes f code h (some t) e = let q : t .handle ≡ h = cc in ap (λ k. says (forwarded f code k) stay) q
+
+unties-not : (f : Frame) (o : Option Tie) → handleOf o ≡ none → untie f o ≡ refuse 24
+unties-not f none e = refl
+unties-not f (some t) e = apart (cc)
+
+unties : (f : Frame) (h : ℕ) (o : Option Tie) → handleOf o ≡ some h → untie f o ≡ says (forwarded f 23 h) (tie (f .channel) none)
+unties f h none e = apart (cc)
+unties f h (some t) e = let q : t .handle ≡ h = cc in ap (λ k. says (forwarded f 23 k) (tie (f .channel) none)) q
 
 -- what is done with a Begin
 abbrev pub begunAs : Incoming → ℕ → RemoteChannel → Whole → Verdict Outcome
@@ -163,39 +187,34 @@ begunAs f h remote w = begun (roleOf w) (viewAs Opened w) (frameOf f) h (channel
 pub back : (e e′ : Endpoint) (t id : List ℕ) → e′ ≡ e → whole e′ t id ≡ whole e t id
 back e e′ t id q = ap (λ x. whole x t id) q
 
--- a rule over what a lookup found, where it found nothing
-not-found :
-    (rule : Option ℕ → Verdict Outcome) {k : ℕ} → rule none ≡ refuse k
-    → (e : Endpoint) (t : List ℕ) (look : Whole → Option ℕ) {a : Held} (r : Routed) → Found e t look a → a ≡ Nothing → r .answer ≡ Refused k → r .endpoint ≡ e
-    → Steps (λ w. rule (look w)) e t (answerSays (r .answer)) (r .endpoint) t
-not-found rule n e t look r p q s u id =
-    stays (λ i. ap rule (sym (p id i) ∙ ap heldSays q) ∙ n) (ap answerSays s) (back e (r .endpoint) t id u)
-
 module _ (e : Endpoint) (t : List ℕ) (f : Incoming) where
-  pub not-passed :
-      (code : ℕ) {a : Held} (r : Routed) → Found e t (tieAt f) a → a ≡ Nothing → r .answer ≡ Refused 24 → r .endpoint ≡ e
-      → Steps (λ w. passOn (frameOf f) code (tieAt f w)) e t (answerSays (r .answer)) (r .endpoint) t
-  not-passed code = not-found (passOn (frameOf f) code) refl e t (tieAt f)
+  module _ {a : Held} (p : Found e t (λ w. handleOf (tieAt f w)) a) where
+    pub not-passed :
+        (code : ℕ) (r : Routed) → a ≡ Nothing → r .answer ≡ Refused 24 → r .endpoint ≡ e
+        → Steps (λ w. passOn (frameOf f) code (tieAt f w)) e t (answerSays (r .answer)) (r .endpoint) t
+    not-passed code r q s u id =
+        stays (λ i. passes-not (frameOf f) code (tieAt f (whole e t id)) (sym (p id i) ∙ ap heldSays q)) (ap answerSays s) (back e (r .endpoint) t id u)
 
-  pub not-untied :
-      {a : Held} (r : Routed) → Found e t (tieAt f) a → a ≡ Nothing → r .answer ≡ Refused 24 → r .endpoint ≡ e
-      → Steps (λ w. untie (frameOf f) (tieAt f w)) e t (answerSays (r .answer)) (r .endpoint) t
-  not-untied = not-found (untie (frameOf f)) refl e t (tieAt f)
+    pub not-untied :
+        (r : Routed) → a ≡ Nothing → r .answer ≡ Refused 24 → r .endpoint ≡ e
+        → Steps (λ w. untie (frameOf f) (tieAt f w)) e t (answerSays (r .answer)) (r .endpoint) t
+    not-untied r q s u id =
+        stays (λ i. unties-not (frameOf f) (tieAt f (whole e t id)) (sym (p id i) ∙ ap heldSays q)) (ap answerSays s) (back e (r .endpoint) t id u)
 
-  pub passed :
-      (code : ℕ) {h : ℕ} {a : Held} (b : FrameAnswer)
-      → Found e t (tieAt f) a → a ≡ Handle h → answerSays b ≡ accept (forwarded (frameOf f) code h)
-      → Steps (λ w. passOn (frameOf f) code (tieAt f w)) e t (answerSays b) e t
-  passed code b p q s id = moves _ (λ i. ap (passOn (frameOf f) code) (sym (p id i) ∙ ap heldSays q)) s (λ i x. refl) (λ i. i) (same-all (whole e t id))
+    pub passed :
+        (code : ℕ) {h : ℕ} (b : FrameAnswer) → a ≡ Handle h → answerSays b ≡ accept (forwarded (frameOf f) code h)
+        → Steps (λ w. passOn (frameOf f) code (tieAt f w)) e t (answerSays b) e t
+    passed code {h} b q s id =
+        moves _ (λ i. passes (frameOf f) code h (tieAt f (whole e t id)) (sym (p id i) ∙ ap heldSays q)) s (λ i x. refl) (λ i. i) (same-all (whole e t id))
 
-  pub untied :
-      {h : ℕ} {a : Held} (b : FrameAnswer) (t′ : List ℕ)
-      → f .channel < placesOf e → Found e t (tieAt f) a → a ≡ Handle h → Changes (f .channel) none t t′
-      → answerSays b ≡ accept (forwarded (frameOf f) 23 h)
-      → Steps (λ w. untie (frameOf f) (tieAt f w)) e t (answerSays b) e t′
-  untied b t′ l p q c s id =
-      moves _ (λ i. ap (untie (frameOf f)) (sym (p id i) ∙ ap heldSays q)) s
-      (retied e t t′ id (f .channel) none l c) (retied-sound e t t′ id (f .channel) none l c) (retied-same e t t′ id (f .channel) none l c)
+    pub untied :
+        {h m : ℕ} (b : FrameAnswer) (t′ : List ℕ)
+        → m ≡ e .«local_open» .«channel_max» → f .channel < placesOf e → a ≡ Handle h → Changes (suc m) (f .channel) none t t′
+        → answerSays b ≡ accept (forwarded (frameOf f) 23 h)
+        → Steps (λ w. untie (frameOf f) (tieAt f w)) e t (answerSays b) e t′
+    untied {h} b t′ own l q c s id =
+        moves _ (λ i. unties (frameOf f) h (tieAt f (whole e t id)) (sym (p id i) ∙ ap heldSays q)) s
+        (retied e t t′ id (f .channel) none own l (λ i. tt) c) (retied-sound e t t′ id (f .channel) none own l (λ i. tt) c) (retied-same e t t′ id (f .channel) none own l (λ i. tt) c)
 
   -- a Begin, by what it names
   module _ (spare : ℕ) {remote : RemoteChannel} where
@@ -204,23 +223,29 @@ module _ (e : Endpoint) (t : List ℕ) (f : Incoming) where
         → Steps (begunAs f spare remote) e t a e′ t′
     names-none p s id = same-rule (ap (λ n. begunAs f spare n (whole e t id)) p) (s id)
 
-    begun-for : {n : ℕ} → remote ≡ Is n → (w : Whole) → begunAs f spare remote w ≡ tieTo (frameOf f) (takenOf w n)
-    begun-for p w = ap (λ n. begunAs f spare n w) p
+    module _ {n : ℕ} (a : Held) (p : remote ≡ Is n) (q : Found e t (λ w. takenOf w n) a) where
+      begun-for : (id : List ℕ) → Sound (whole e t id) → begunAs f spare remote (whole e t id) ≡ tieTo (frameOf f) n (heldSays a)
+      begun-for id i = ap (λ r. begunAs f spare r (whole e t id)) p ∙ ap (tieTo (frameOf f) n) (sym (q id i))
 
-    pub names-unknown :
-        {n : ℕ} {a : Held} (r : Routed)
-        → remote ≡ Is n → Found e t (λ w. takenOf w n) a → a ≡ Nothing → r .answer ≡ Refused 24 → r .endpoint ≡ e
-        → Steps (begunAs f spare remote) e t (answerSays (r .answer)) (r .endpoint) t
-    names-unknown {n} r p q z s u id = same-rule (begun-for p (whole e t id)) (not-found (tieTo (frameOf f)) refl e t (λ w. takenOf w n) r q z s u id)
+      pub names-unknown :
+          (r : Routed) → a ≡ Nothing → r .answer ≡ Refused 24 → r .endpoint ≡ e
+          → Steps (begunAs f spare remote) e t (answerSays (r .answer)) (r .endpoint) t
+      names-unknown r z s u id = stays (λ i. begun-for id i ∙ ap (λ o. tieTo (frameOf f) n (heldSays o)) z) (ap answerSays s) (back e (r .endpoint) t id u)
 
-    pub tied :
-        {n h : ℕ} {a : Held} (b : FrameAnswer) (t′ : List ℕ)
-        → f .channel < placesOf e → remote ≡ Is n → Found e t (λ w. takenOf w n) a → a ≡ Handle h
-        → Changes (f .channel) (some h) t t′ → answerSays b ≡ accept (forwarded (frameOf f) 17 h)
-        → Steps (begunAs f spare remote) e t (answerSays b) e t′
-    tied {h = h} b t′ l p q z c s id =
-        moves _ (λ i. begun-for p (whole e t id) ∙ ap (tieTo (frameOf f)) (sym (q id i) ∙ ap heldSays z)) s
-        (retied e t t′ id (f .channel) (some h) l c) (retied-sound e t t′ id (f .channel) (some h) l c) (retied-same e t t′ id (f .channel) (some h) l c)
+      pub tied :
+          {h m : ℕ} (b : FrameAnswer) (t′ : List ℕ)
+          → m ≡ e .«local_open» .«channel_max» → f .channel < placesOf e → a ≡ Handle h
+          → Changes (suc m) (f .channel) (some (tieOf n h)) t t′ → answerSays b ≡ accept (forwarded (frameOf f) 17 h)
+          → Steps (begunAs f spare remote) e t (answerSays b) e t′
+      tied {h} b t′ own l z c s id =
+          moves _ (λ i. begun-for id i ∙ ap (λ o. tieTo (frameOf f) n (heldSays o)) z) s
+          (retied e t t′ id (f .channel) v own l low c) (retied-sound e t t′ id (f .channel) v own l low c) (retied-same e t t′ id (f .channel) v own l low c)
+        where
+          v : Option Tie
+          v = some (tieOf n h)
+
+          low : Sound (whole e t id) → n < placesOf e
+          low i = taken-within (whole e t id) i n h (sym (q id i) ∙ ap heldSays z)
 
 -- ---- a session that the peer begins
 
@@ -259,27 +284,40 @@ module _ (e : Endpoint) (t : List ℕ) (f : Incoming) (spare : ℕ) where
       (λ j. whole (u j) (z j) id)
 
   pub taken-and-tied :
-      {d : Allocation} {t₁ : List ℕ} {ch len : ℕ} (t′ : List ℕ)
-      → f .channel < placesOf e → e .role ≡ Listener → Allocates (e .outgoing) t spare d t₁ → d .answer ≡ Channel ch → Changes (f .channel) (some spare) t₁ t′ → len ≡ f .size - f .from
+      {d : Allocation} {t₁ : List ℕ} {ch len m : ℕ} (t′ : List ℕ)
+      → m ≡ e .«local_open» .«channel_max» → f .channel < placesOf e → e .role ≡ Listener → Allocates (e .outgoing) t spare d t₁ → d .answer ≡ Channel ch
+      → Changes (suc m) (f .channel) (some (tieOf ch spare)) t₁ t′ → len ≡ f .size - f .from
       → Steps (λ w. newSession (roleOf w) (frameOf f) spare (handOutOf w)) e t (accept (began (f .size) ch spare (f .from) len)) (counting e (d .channels)) t′
-  taken-and-tied {d} {t₁} {ch} t′ l p q a c n id =
+  taken-and-tied {d} {t₁} {ch} t′ own l p q a c n id =
       moves-as refl (λ i.
       let s = next-starts (handOutOf (whole e t id)) ch (sym (ap allocatedSays a) ∙ q .answers (i .numbers)) in
       let b = taken-sound e t spare d t₁ q id i ch (s .rest) (s .list) in
+      let low = through-low i (s .rest) (s .list) in
       record {
         outcome = _;
         accepts = began-by p _ id (s .list);
         answers = ap (λ k. accept (began (f .size) ch spare (f .from) k)) n;
-        view = λ x. retied (counting e (d .channels)) t₁ t′ id (f .channel) (some spare) l c b x
-            ∙ ap (apply (settingsOf (whole e t id)) (tie (f .channel) (some spare))) (taken-view e t spare d t₁ q id i ch (s .rest) (s .list) x);
-        still-sound = retied-sound (counting e (d .channels)) t₁ t′ id (f .channel) (some spare) l c b;
+        view = λ x. retied later t₁ t′ id (f .channel) v own l low c b x ∙ ap (apply (settingsOf (whole e t id)) (tie (f .channel) v)) (taken-view e t spare d t₁ q id i ch (s .rest) (s .list) x);
+        still-sound = retied-sound later t₁ t′ id (f .channel) v own l low c b;
       }) (record {
         same-role = refl;
         same-settings = refl;
         same-long = c .numbers .long ∙ q .ties .long;
-        same-past = λ z. c .numbers .rest (placesOf e) (omega arith) ∙ q .ties .rest (placesOf e) (z .1);
+        same-past = λ z. c .numbers .rest (placesOf e) (omega (arith, own)) ∙ q .ties .rest (placesOf e) (z .1);
         still-counted = taken-same e t spare d t₁ q id .still-counted;
       })
+    where
+      later : Endpoint
+      later = counting e (d .channels)
+
+      v : Option Tie
+      v = some (tieOf ch spare)
+
+      -- the channel is taken by then
+      through-low : Sound (whole e t id) → (rest : List ℕ) → handOutOf (whole e t id) ≡ some (ch ∷ rest) → Sound (whole later t₁ id) → ch < placesOf e
+      through-low i rest h j =
+          taken-within (whole later t₁ id) j ch spare
+          (ap (λ g. g ch) (q .keeps (i .numbers) ch rest h .taken) ∙ ap (λ b. cond b (some spare) (takenOf (whole e t id) ch)) (eq-eqb ch ch refl))
 
 -- ---- a session's frame that came
 

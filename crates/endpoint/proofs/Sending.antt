@@ -4,7 +4,7 @@ use mathlib.Core.Path.{_≡_, refl, sym, ap, _∙_, subst}
 use mathlib.Core.Bool.{Bool, true, false, cond, and-eq-true-iff}
 use mathlib.Core.List.{List, [], _∷_}
 use mathlib.Core.Option.{Option, none, some}
-use Prim.Native.Nat.{ℕ, _<_, _≤_}
+use Prim.Native.Nat.{ℕ, suc, _<_, _≤_}
 use native.Mathlib.Omega.{arith}
 use types.Run.{OneOf, miss}
 use denote.Enum.Declared.{tagOf}
@@ -36,7 +36,8 @@ use Rattle.session_frame.specs.Session.{sessionBytes, writeSession}
 use Rattle.connection_state.specs.States.{State, isOneOf, sending}
 use Rattle.connection_model.specs.Connection as M
 use Rattle.connection_model.specs.Connection.{Effect, Outcome, Answer, stay, tie, wrote, writes, tiedBy, sessionSent, sendSessionFrame, decide, answered, after, written}
-use Rattle.channels.specs.Ties.{Changes}
+use Rattle.channels.specs.Ties.{Tie, tieOf}
+use Rattle.channels.specs.Lists.{Changes}
 use Rattle.channels.specs.declared.Held.{Held}
 use Rattle.channels.specs.declared.Held.the-variants.{Handle, Nothing}
 use Rattle.channels.specs.Channels.{heldSays}
@@ -46,11 +47,11 @@ use Rattle.endpoint.specs.declared.Endpoint.{Endpoint}
 use Rattle.endpoint.specs.declared.SessionSent.{SessionSent}
 use Rattle.endpoint.specs.declared.OutgoingTie.{OutgoingTie}
 use Rattle.endpoint.specs.declared.OutgoingTie.the-variants.{Stay, To, NotFound}
-use Rattle.endpoint.specs.Answers.{Whole, whole, roleSays, roleOf, settingsOf, takenOf, viewAs, sentSays, tieSays, refusalOf}
+use Rattle.endpoint.specs.Answers.{Whole, whole, roleSays, roleOf, settingsOf, placesOf, takenOf, viewAs, sentSays, tieSays, refusalOf}
 use Rattle.endpoint.specs.Promises.{Sound, Send}
 use Rattle.endpoint.specs.Outgoing.{Low, AsksTie, Ties, tiesAndWrites}
 use Rattle.endpoint.proofs.OutgoingTie.{the-type as tie-type}
-use Rattle.endpoint.proofs.Basics.{same-all, stays, retied, retied-sound, retied-same}
+use Rattle.endpoint.proofs.Basics.{same-all, stays, taken-within, retied, retied-sound, retied-same}
 
 -- ---- outgoing_tie
 
@@ -58,9 +59,9 @@ use Rattle.endpoint.proofs.Basics.{same-all, stays, retied, retied-soun
 abbrev pub named : P.Performative → List ℕ
 named p = cond (eqb (performativeSays p .0) 17) (performativeSays p .1) []
 
-unnamed : (role : M.Role) (h : Option ℕ) → accept stay ≡ tiedBy role [] h
-unnamed M.dialler h = refl
-unnamed M.listener h = refl
+unnamed : (role : M.Role) (ch : ℕ) (h : Option ℕ) → accept stay ≡ tiedBy role [] ch h
+unnamed M.dialler ch h = refl
+unnamed M.listener ch h = refl
 
 other-names : (p : P.Performative) → OneOf (0 ∷ 2 ∷ 3 ∷ 4 ∷ 5 ∷ 6 ∷ 7 ∷ 8 ∷ []) (tagOf performative-type p) → named p ≡ []
 other-names (Open a b c) h = refl
@@ -74,16 +75,16 @@ other-names (End e) h = refl
 other-names (Close e) h = refl
 
 module _ (self : Endpoint) (t : List ℕ) (channel : ℕ) (p : P.Performative) where
-  asks-none : (id : List ℕ) → accept stay ≡ tiedBy (roleOf (whole self t id)) (named p) (takenOf (whole self t id) channel) → AsksTie (whole self t id) channel (named p) Stay
-  asks-none id q = record { asks = λ i. q; only-named = λ ch h z. apart (cc) }
+  asks-none : (id : List ℕ) → accept stay ≡ tiedBy (roleOf (whole self t id)) (named p) channel (takenOf (whole self t id) channel) → AsksTie (whole self t id) channel (named p) Stay
+  asks-none id q = record { asks = λ i. q; only-named = λ n ch h z. apart (cc); of-channels = λ n ch h z. apart (cc) }
 
   pub tie-dialler : self .role ≡ Dialler → (id : List ℕ) → AsksTie (whole self t id) channel (named p) Stay
-  tie-dialler e id = asks-none id (sym (ap (λ x. tiedBy (roleSays x) (named p) (takenOf (whole self t id) channel)) e))
+  tie-dialler e id = asks-none id (sym (ap (λ x. tiedBy (roleSays x) (named p) channel (takenOf (whole self t id) channel)) e))
 
   none-named : named p ≡ [] → (id : List ℕ) → AsksTie (whole self t id) channel (named p) Stay
   none-named e id =
       asks-none id
-      (unnamed (roleOf (whole self t id)) (takenOf (whole self t id) channel) ∙ sym (ap (λ l. tiedBy (roleOf (whole self t id)) l (takenOf (whole self t id) channel)) e))
+      (unnamed (roleOf (whole self t id)) channel (takenOf (whole self t id) channel) ∙ sym (ap (λ l. tiedBy (roleOf (whole self t id)) l channel (takenOf (whole self t id) channel)) e))
 
   pub tie-other : OneOf (0 ∷ 2 ∷ 3 ∷ 4 ∷ 5 ∷ 6 ∷ 7 ∷ 8 ∷ []) (tagOf performative-type p) → (id : List ℕ) → AsksTie (whole self t id) channel (named p) Stay
   tie-other h = none-named (other-names p h)
@@ -96,37 +97,40 @@ module _ (self : Endpoint) (t : List ℕ) (channel : ℕ) (p : P.Performative) w
       names-one : named p ≡ r ∷ []
       names-one = rw (b, is)
 
-      asked : (id : List ℕ) → Sound (whole self t id) → (o : Option ℕ) → heldSays a ≡ o → tiedBy M.listener (r ∷ []) o ≡ tiedBy (roleOf (whole self t id)) (named p) (takenOf (whole self t id) channel)
+      asked : (id : List ℕ) → Sound (whole self t id) → (o : Option ℕ) → heldSays a ≡ o → tiedBy M.listener (r ∷ []) channel o ≡ tiedBy (roleOf (whole self t id)) (named p) channel (takenOf (whole self t id) channel)
       asked id i o q = rw (role, names-one, ← f id i, q)
 
       pub tie-not : a ≡ Nothing → (id : List ℕ) → AsksTie (whole self t id) channel (named p) NotFound
-      tie-not q id = record { asks = λ i. asked id i none (ap heldSays q); only-named = λ ch h z. apart (cc) }
+      tie-not q id = record { asks = λ i. asked id i none (ap heldSays q); only-named = λ n ch h z. apart (cc); of-channels = λ n ch h z. apart (cc) }
 
-      pub tie-to : (h : ℕ) → a ≡ Handle h → (id : List ℕ) → AsksTie (whole self t id) channel (named p) (To r h)
+      pub tie-to : (h : ℕ) → a ≡ Handle h → (id : List ℕ) → AsksTie (whole self t id) channel (named p) (To r channel h)
       tie-to h q id = record {
         asks = λ i. asked id i (some h) (ap heldSays q);
-        only-named = λ ch g z. let y : r ≡ ch = cc in ([], names-one ∙ ap (λ n. n ∷ []) y);
+        only-named = λ n ch g z. let y : r ≡ n = cc in ([], names-one ∙ ap (λ k. k ∷ []) y);
+        of-channels = λ n ch g z i. let y : channel ≡ ch = cc in subst (λ k. k < placesOf self) y (taken-within (whole self t id) i channel h (sym (f id i) ∙ ap heldSays q));
       }
 
 -- ---- make_tie
 
 pub tied-not : (self : Endpoint) (t : List ℕ) (tie : OutgoingTie) → OneOf (0 ∷ 2 ∷ []) (tagOf tie-type tie) → (id : List ℕ) → Ties (whole self t id) tie (whole self t id)
 tied-not self t Stay o id = record { ties = λ i e q x. let z : e ≡ stay = cc in rw z; ties-sound = λ i. i; ties-same = same-all (whole self t id) }
-tied-not self t (To ch h) o id = absurd (miss (0 ∷ 2 ∷ []) 1 tt o)
+tied-not self t (To n ch h) o id = absurd (miss (0 ∷ 2 ∷ []) 1 tt o)
 tied-not self t NotFound o id = record { ties = λ i e q x. apart (cc); ties-sound = λ i. i; ties-same = same-all (whole self t id) }
 
 pub tied-to :
-    (self : Endpoint) (t t′ : List ℕ) (to : OutgoingTie) → Low self to → (ch h : ℕ) → to ≡ To ch h → Changes ch (some h) t t′
-    → (id : List ℕ) → Ties (whole self t id) to (whole self t′ id)
-tied-to self t t′ to l ch h q c id =
-    let low = l .low ch h q in
+    (self : Endpoint) (t t′ : List ℕ) (to : OutgoingTie) → Low self t to → (n ch h : ℕ) → to ≡ To n ch h → {m : ℕ} → m ≡ self .«local_open» .«channel_max»
+    → Changes (suc m) n (some (tieOf ch h)) t t′ → (id : List ℕ) → Ties (whole self t id) to (whole self t′ id)
+tied-to self t t′ to l n ch h q own c id =
+    let v : Option Tie = some (tieOf ch h) in
+    let low = l .low n ch h q in
+    let through = l .through-low n ch h q id in
     record {
       ties = λ i e r x.
-          let z : accept (tie ch (some h)) ≡ accept e = sym (ap tieSays q) ∙ r in
-          let y : e ≡ tie ch (some h) = cc in
-          retied self t t′ id ch (some h) low c i x ∙ sym (ap (λ d. M.apply (settingsOf (whole self t id)) d (viewAs x (whole self t id))) y);
-      ties-sound = retied-sound self t t′ id ch (some h) low c;
-      ties-same = retied-same self t t′ id ch (some h) low c;
+          let z : accept (tie n v) ≡ accept e = sym (ap tieSays q) ∙ r in
+          let y : e ≡ tie n v = cc in
+          retied self t t′ id n v own low through c i x ∙ sym (ap (λ d. M.apply (settingsOf (whole self t id)) d (viewAs x (whole self t id))) y);
+      ties-sound = retied-sound self t t′ id n v own low through c;
+      ties-same = retied-same self t t′ id n v own low through c;
     }
 
 -- ---- a refusal
@@ -155,7 +159,7 @@ writes-24 self t to v r out e n id = sends-not self t id r 24 out (λ i. refused
 -- a tie that was found
 makes : (to : OutgoingTie) → OneOf (0 ∷ 1 ∷ []) (tagOf tie-type to) → (e : Effect) × (tieSays to ≡ accept e)
 makes Stay o = (stay, refl)
-makes (To ch h) o = (tie ch (some h), refl)
+makes (To n ch h) o = (tie n (some (tieOf ch h)), refl)
 makes NotFound o = absurd (miss (0 ∷ 1 ∷ []) 2 tt o)
 
 both : (t : Verdict Effect) (v : Verdict (List ℕ)) (e : Effect) → t ≡ accept e → tiesAndWrites t v ≡ andThen v (λ bytes. writes bytes e)
@@ -263,12 +267,13 @@ was-read highest s f e channel size from p end q =
 pub send-low :
     (self : Endpoint) (t s : List ℕ) (highest : ℕ) → highest ≡ self .«local_open» .«channel_max» → (f : F.Frame) → frameSays f ≡ sessionAnswer highest s
     → (channel size from : ℕ) (p : P.Performative) (end : ℕ) → f ≡ Body channel size from p end
-    → (to : OutgoingTie) → ((id : List ℕ) → AsksTie (whole self t id) channel (named p) to) → Low self to
+    → (to : OutgoingTie) → ((id : List ℕ) → AsksTie (whole self t id) channel (named p) to) → Low self t to
 send-low self t s highest m f e channel size from p end q to asked = record {
-  low = λ ch h z.
-      let n = asked [] .only-named ch h z in
-      let y : within highest (ch ∷ n .0) ≡ true = sym (ap (within highest) (n .1)) ∙ was-read highest s f e channel size from p end q .known in
-      omega (arith, leb-true ch highest (and-eq-true-iff (leb ch highest) (within highest (n .0)) .0 y .0));
+  low = λ n ch h z.
+      let r = asked [] .only-named n ch h z in
+      let y : within highest (n ∷ r .0) ≡ true = sym (ap (within highest) (r .1)) ∙ was-read highest s f e channel size from p end q .known in
+      omega (arith, leb-true n highest (and-eq-true-iff (leb n highest) (within highest (r .0)) .0 y .0));
+  through-low = λ n ch h z id i. asked id .of-channels n ch h z i;
 }
 
 -- an equal rule, where the tables are sound
@@ -326,7 +331,7 @@ module _ (self : Endpoint) (t : List ℕ) (x : State) (s out : List ℕ) where
             let r = was-read highest s f e channel size from p end q in
             let bytes : writeSession highest s (self .«writing_limit») out ≡ limited (self .«writing_limit») (sessionBytes s (r .read)) =
             require-on 9 _ _ roomy ∙ then-accept (sessionFrame highest s) _ (r .read) (r .is) in
-            let same : tiedBy (roleOf (whole self t id)) (beginsFor (eqb (r .read .1 .code) 17) (r .read .1)) (takenOf (whole self t id) (r .read .0 .channel)) ≡ tieSays to =
+            let same : tiedBy (roleOf (whole self t id)) (beginsFor (eqb (r .read .1 .code) 17) (r .read .1)) (r .read .0 .channel) (takenOf (whole self t id) (r .read .0 .channel)) ≡ tieSays to =
             rw (r .names, r .on) (sym (asked id .asks i)) in
             state-next id
             ∙ require-on 20 _ _ (sym g ∙ b)

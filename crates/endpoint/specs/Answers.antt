@@ -14,12 +14,13 @@ use Rattle.connection_state.specs.States.{State}
 use Rattle.connection_model.specs.Connection as M
 use Rattle.connection_model.specs.Connection.{Answer, connection, wrote, nothingToDo, opened, closed, forward, began, channel, freed}
 use Rattle.channels.specs.Numbers.{Map}
+use Rattle.channels.specs.Ties.{tieOf, Ties}
 use Rattle.channels.specs.declared.Held.{Held}
 use Rattle.channels.specs.declared.Held.the-variants.{Handle, Nothing}
 use Rattle.channels.specs.declared.Allocated.{Allocated}
 use Rattle.channels.specs.declared.Allocated.the-variants.{Channel, NotOpened, Full}
 use Rattle.channels.specs.Channels.{agreedSays, handOutSays, takenSays}
-use Rattle.channels.specs.Ties.{tiesSays}
+use Rattle.channels.specs.Lists.{tiesSays}
 use Rattle.local_open.specs.Settings.{openSays}
 use Rattle.endpoint.specs.declared.Role.{Role}
 use Rattle.endpoint.specs.declared.Role.the-variants.{Dialler, Listener}
@@ -60,7 +61,7 @@ handOutOf w = handOutSays (w .endpoint .outgoing) (w .tables)
 abbrev pub takenOf : Whole → Map
 takenOf w = takenSays (w .endpoint .outgoing) (w .tables)
 
-abbrev pub tiesOf : Whole → Map
+abbrev pub tiesOf : Whole → Ties
 tiesOf w = tiesSays (placesOf (w .endpoint)) (w .tables)
 
 -- the connection in a state
@@ -96,7 +97,7 @@ deallocateSays Nothing = refuse 26
 -- what a frame that goes out does to the ties
 abbrev pub tieSays : OutgoingTie → Verdict M.Effect
 tieSays Stay = accept M.stay
-tieSays (To ch h) = accept (M.tie ch (some h))
+tieSays (To n ch h) = accept (M.tie n (some (tieOf ch h)))
 tieSays NotFound = refuse 24
 
 -- the refusal of a frame that is to be sent; one without a performative is refused with 6

@@ -12,7 +12,8 @@ use Rattle.octets.specs.Output.{laid}
 use Rattle.frame_encoder.specs.Frames.{Settings}
 use Rattle.connection_state.specs.States.{State, isOneOf, beforeOpen, afterOpen}
 use Rattle.connection_model.specs.Connection.{Answer, Outcome, clamped, answered, after, written}
-use Rattle.channels.specs.Places.{Covers, past}
+use Rattle.channels.specs.Places.{past}
+use Rattle.channels.specs.Lists.{Listed}
 use Rattle.channels.specs.Channels as N
 use Rattle.channels.specs.Channels.{agreedSays, countsOk, unopened, openedTo}
 use Rattle.channels.specs.declared.OutgoingChannels.{OutgoingChannels}
@@ -26,9 +27,9 @@ use Rattle.endpoint.specs.Answers.{Whole, whole, roleOf, settingsOf, pla
 
 -- ---- what holds of an endpoint and its tables while nobody else writes these
 
--- a place for each channel, an agreed channel-max that is not above the local one, and numbers that keep their rule
+-- a place for each channel, with lists that agree with the ties, an agreed channel-max that is not above the local one, and numbers that keep their rule
 pub record Sound (w : Whole) : Type 0 where
-  pub covered : Covers (placesOf (w .endpoint)) (w .tables)
+  pub listed : Listed (placesOf (w .endpoint)) (w .tables)
   pub most : suc (w .endpoint .outgoing .highest) ≤ placesOf (w .endpoint)
   pub numbers : N.Sound (w .endpoint .outgoing) (w .tables)
 

@@ -19,7 +19,8 @@ ghost use Rattle.connection_state.specs.Answers.{stateSays};
 ghost use Rattle.connection_model.specs.Connection.{clamped, given, released};
 ghost use Rattle.channels.specs.Places.{covers};
 ghost use Rattle.channels.specs.Channels.{agreedMaxSays, agreedSays, heldSays};
-ghost use Rattle.channels.specs.Ties.{Clears};
+ghost use Rattle.channels.specs.Ties.{handleOf};
+ghost use Rattle.channels.specs.Lists.{Clears};
 ghost use Rattle.channels.specs.Numbers.{takenBelow};
 ghost use Rattle.local_open.specs.Settings.{openSays};
 ghost use Rattle.endpoint.specs.Answers.{whole, placesOf, handOutOf, takenOf, tiesOf, allocateSays, deallocateSays};
@@ -106,7 +107,11 @@ pub struct SessionDeallocated {
 // What a session's frame that goes out does to the ties.
 pub(crate) enum OutgoingTie {
     Stay,
-    To { incoming: u16, handle: u32 },
+    To {
+        incoming: u16,
+        outgoing: u16,
+        handle: u32,
+    },
     NotFound,
 }
 
@@ -273,7 +278,7 @@ impl Endpoint {
 
     // The handle that an incoming channel is tied to
     pub fn tied_handle(self, tables: &[u8], channel: u16) -> Held
-        ensures { λ r. ⌜ ((id : List ℕ) → Sound (whole self (now (tables .entry)) id) → heldSays r ≡ tiesOf (whole self (now (tables .entry)) id) channel) ⌝ }
+        ensures { λ r. ⌜ ((id : List ℕ) → Sound (whole self (now (tables .entry)) id) → heldSays r ≡ handleOf (tiesOf (whole self (now (tables .entry)) id) channel)) ⌝ }
     {
         ties::get(tables, self.channel_max(), channel)
     }
@@ -312,16 +317,24 @@ impl Endpoint {
         }
     }
 
+    // Frees a channel, with the ties that were made through it.
     pub fn deallocate(mut self, tables: &mut [u8], channel: u16) -> SessionDeallocated
         ensures { λ r. ⌜ Steps (λ w. released channel (takenOf w channel)) self (now (tables .entry)) (deallocateSays (r .answer)) (r .endpoint) (now (tables .exit)) ⌝ }
     {
         let outgoing = self.outgoing;
         let d = outgoing.deallocate(tables, channel);
         let answer = d.answer;
+        let Held::Handle(handle) = answer else {
+            return SessionDeallocated {
+                answer: Held::Nothing,
+                endpoint: self,
+            };
+        };
         let channels = d.channels;
         self.outgoing = channels;
+        ties::drop_through(tables, self.channel_max(), channel);
         SessionDeallocated {
-            answer,
+            answer: Held::Handle(handle),
             endpoint: self,
         }
     }

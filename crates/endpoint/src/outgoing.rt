@@ -87,7 +87,7 @@ impl Endpoint {
         self.write_tied(tables, tie, highest, frame, out)
     }
 
-    // A listener's Begin that names a remote-channel ties it to the sender's handle.
+    // A listener's Begin that names a remote-channel ties it through the sender's channel to the handle there.
     fn outgoing_tie(self, tables: &[u8], channel: u16, performative: Performative) -> OutgoingTie
         ensures { λ r. ⌜ ((id : List ℕ) → AsksTie (whole self (now (tables .entry)) id) channel (cond (eqb (performativeSays performative .0) 17) (performativeSays performative .1) []) r) ⌝ }
     {
@@ -106,6 +106,7 @@ impl Endpoint {
         };
         OutgoingTie::To {
             incoming: r,
+            outgoing: channel,
             handle,
         }
     }
@@ -119,7 +120,7 @@ impl Endpoint {
         frame: &[u8],
         out: &mut [u8],
     ) -> SessionSent
-        requires { ⌜ Low self tie ⌝ }
+        requires { ⌜ Low self (now tables) tie ⌝ }
         ensures { λ r. ⌜ Sends (λ w. tiesAndWrites (tieSays tie) (writeSession highest (now (frame .entry)) (self .«writing_limit») (now (out .entry)))) self (now (tables .entry)) (sentSays (r .answer)) (r .endpoint) (now (tables .exit)) (now (out .entry)) (now (out .exit)) ⌝ }
     {
         if let OutgoingTie::NotFound = tie {
@@ -141,16 +142,17 @@ impl Endpoint {
 
     // Makes the tie in the tables.
     fn make_tie(self, tables: &mut [u8], tie: OutgoingTie)
-        requires { ⌜ Low self tie ⌝ }
+        requires { ⌜ Low self (now tables) tie ⌝ }
         ensures { λ _. ⌜ ((id : List ℕ) → Ties (whole self (now (tables .entry)) id) tie (whole self (now (tables .exit)) id)) ⌝ }
     {
         let OutgoingTie::To {
-            incoming: channel,
+            incoming,
+            outgoing,
             handle,
         } = tie
         else {
             return;
         };
-        ties::tie(tables, channel, handle);
+        ties::tie(tables, self.channel_max(), incoming, outgoing, handle);
     }
 }

@@ -105,7 +105,7 @@ impl Endpoint {
         let Held::Handle(handle) = self.handle_at(tables, r) else {
             return self.refused(24);
         };
-        ties::tie(tables, frame.channel, handle);
+        ties::tie(tables, self.channel_max(), frame.channel, r, handle);
         Routed {
             answer: forward(frame, 17, handle),
             endpoint: self,
@@ -129,7 +129,7 @@ impl Endpoint {
         };
         let channels = a.channels;
         self.outgoing = channels;
-        ties::tie(tables, frame.channel, spare);
+        ties::tie(tables, self.channel_max(), frame.channel, channel, spare);
         Routed {
             answer: FrameAnswer::Began {
                 consumed: frame.size,
@@ -150,7 +150,7 @@ impl Endpoint {
         let Held::Handle(handle) = self.tied_handle(tables, frame.channel) else {
             return self.refused(24);
         };
-        ties::untie(tables, frame.channel);
+        ties::untie(tables, self.channel_max(), frame.channel);
         Routed {
             answer: forward(frame, 23, handle),
             endpoint: self,

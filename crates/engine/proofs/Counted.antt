@@ -12,6 +12,7 @@ use Rattle.performatives.specs.Performative.{Performative, remoteChannel}
 use Rattle.frame_decoder.specs.Frame.{Frame, readFrame, sessionFrame}
 use Rattle.frame_encoder.specs.Frames.{Settings}
 use Rattle.connection_state.specs.States.{Discarding, End, is, isOneOf, silent}
+use Rattle.channels.specs.Ties.{Tie}
 use Rattle.connection_model.specs.Connection.{Role, dialler, listener, Connection, Call, sendHeaderTo, receiveHeaderFrom, sendOpenTo, receiveFrame, sendCloseTo, sendSessionFrame, allocate, deallocate, tick, Answer, wrote, stop, header, otherProtocol, nothingToDo, opened, closed, forward, began, channel, freed, Outcome, headed, tieTo, untie, passOn, newSession, begun, sessionRead, performativeRead, frameRead, closes, given, released, decide}
 use Rattle.connection_model.proofs.Rules.{Holds, refused, holds, on-require, on-cond, on-any, accepted}
 
@@ -40,15 +41,15 @@ module _ (role : Role) (S : Settings) (c : Connection) where
   on-headed (other h) = on-any _ _ _ (λ x. holds refl)
 
   module _ (f : Frame) where
-    on-tieTo : (o : Option ℕ) → AllCounted (tieTo f o)
-    on-tieTo none = refused
-    on-tieTo (some h) = holds refl
+    on-tieTo : (r : ℕ) (o : Option ℕ) → AllCounted (tieTo f r o)
+    on-tieTo r none = refused
+    on-tieTo r (some h) = holds refl
 
-    on-untie : (o : Option ℕ) → AllCounted (untie f o)
+    on-untie : (o : Option Tie) → AllCounted (untie f o)
     on-untie none = refused
     on-untie (some h) = holds refl
 
-    on-passOn : (code : ℕ) (o : Option ℕ) → AllCounted (passOn f code o)
+    on-passOn : (code : ℕ) (o : Option Tie) → AllCounted (passOn f code o)
     on-passOn code none = refused
     on-passOn code (some h) = holds refl
 
@@ -60,7 +61,7 @@ module _ (role : Role) (S : Settings) (c : Connection) where
 
     on-begun : (h : ℕ) (rs : List ℕ) → AllCounted (begun role c f h rs)
     on-begun h [] = on-newSession role h (c .handOut)
-    on-begun h (r ∷ rs) = on-tieTo (c .taken r)
+    on-begun h (r ∷ rs) = on-tieTo r (c .taken r)
 
     on-sessionRead : (h code : ℕ) (rs : List ℕ) → AllCounted (sessionRead role c f h code rs)
     on-sessionRead h code rs =

@@ -89,7 +89,7 @@ module _ (role : Role) (S : Settings) (c : K.Connection) (s : List ℕ) where
   sent-short : (r : Frame × Performative) → length (sessionBytes s r) ≤ 2 * sizeOf s → Holds Short (sessionSent role c s r)
   sent-short r l =
       on-require _ _ _ _ (λ t.
-      on-any _ (tiedBy role (beginsFor (eqb (r .1 .code) 17) (r .1)) (c .taken (r .0 .channel))) _ (λ e.
+      on-any _ (tiedBy role (beginsFor (eqb (r .1 .code) 17) (r .1)) (r .0 .channel) (c .taken (r .0 .channel))) _ (λ e.
       on-andThen _ _ (limited-is (c .writingLimit) (sessionBytes s r)) (λ bytes q. holds {a = record { answer = wrote (length bytes); effect = e; bytes = bytes }} (subst (λ b. length b ≤ 2 * sizeOf s) (sym q) l))))
 
   frame-short : (out : List ℕ) (o : K.Outcome) (n : ℕ) → Octets s → First (S .channelMax) s n → decide role S c (sendSessionFrame s out) ≡ accept o → length (o .bytes) ≤ 2 * sizeOf s

@@ -56,11 +56,11 @@ session-low highest s =
     (on-then _ _ (performative-low (bodyIn f s)) (λ p. on-require _ _ _ _ (omega arith) (λ t. on-require _ _ _ _ (omega arith) (λ u. on-require _ _ _ _ (omega arith) (λ v. takes)))))
     (λ p. takes))
 
-tied-high : (role : Role) (rs : List ℕ) (h : Option ℕ) → Refuses High (tiedBy role rs h)
-tied-high dialler rs h = takes
-tied-high listener [] h = takes
-tied-high listener (r ∷ rs) none = turns {k = 24} (omega arith)
-tied-high listener (r ∷ rs) (some h) = takes
+tied-high : (role : Role) (rs : List ℕ) (ch : ℕ) (h : Option ℕ) → Refuses High (tiedBy role rs ch h)
+tied-high dialler rs ch h = takes
+tied-high listener [] ch h = takes
+tied-high listener (r ∷ rs) ch none = turns {k = 24} (omega arith)
+tied-high listener (r ∷ rs) ch (some h) = takes
 
 limited-high : (limit : ℕ) (bytes : List ℕ) → Refuses High (limited limit bytes)
 unfolding limited
@@ -70,7 +70,7 @@ limited-high limit bytes = on-require _ _ _ _ (omega arith) (λ t. takes)
 sent-high : (role : Role) (c : K.Connection) (s : List ℕ) (r : Frame × Performative) → Refuses High (sessionSent role c s r)
 sent-high role c s r =
     on-require _ _ _ _ (omega arith)
-    (λ t. on-then _ _ (tied-high role (beginsFor (eqb (r .1 .code) 17) (r .1)) (c .taken (r .0 .channel))) (λ e. on-then _ _ (limited-high (c .writingLimit) (sessionBytes s r)) (λ bytes. takes)))
+    (λ t. on-then _ _ (tied-high role (beginsFor (eqb (r .1 .code) 17) (r .1)) (r .0 .channel) (c .taken (r .0 .channel))) (λ e. on-then _ _ (limited-high (c .writingLimit) (sessionBytes s r)) (λ bytes. takes)))
 
 -- ---- a frame that goes out
 

@@ -4,7 +4,7 @@ use mathlib.Core.Path.{_≡_, refl, sym, _∙_, ap, subst}
 use mathlib.Core.Bool.{Bool, true, false}
 use mathlib.Core.List.{List, [], _++_}
 use mathlib.Core.Option.{Option, none, some}
-use Prim.Native.Nat.{ℕ, _≤_}
+use Prim.Native.Nat.{ℕ, suc, _≤_}
 use native.Mathlib.Omega.{arith}
 use lib.ListN.{length, take}
 use Rattle.octets.specs.Octets.{put}
@@ -15,8 +15,10 @@ use Rattle.connection_state.specs.Answers.{stateSays}
 use Rattle.connection_model.specs.Connection.{Role}
 use Rattle.connection_model.specs.Sound.{Reached}
 use Rattle.channels.specs.Channels.{agreedSays}
+use Rattle.channels.specs.Lists.{Listed}
 use Rattle.channels.specs.declared.OutgoingChannels.{OutgoingChannels}
 use Rattle.channels.proofs.Limits.{opened-limits, opened-head, closed-limits, used-low}
+use Rattle.endpoint.specs.Answers.{placesOf}
 use Rattle.endpoint.specs.Promises as E
 use Rattle.endpoint.proofs.Limits.{limits-counted, reached-limits}
 use Rattle.connection.specs.View as C
@@ -42,8 +44,8 @@ module _ (s : List ℕ) (e : ConnectionEngine) (read : fixedAt s ≡ accept (fix
   pub read-counted : E.Counted (e .connection .endpoint)
   read-counted = limits-counted (e .connection .endpoint) (idAt s) (stateSays (e .connection .«local_state»)) (said-counts s _ said) (said .limits-fine)
 
-  pub read-sound : Reached (settingsOf readWhole) (viewOf readWhole .connection) → Sound readWhole
-  read-sound r = counted-sound (connectionIn readWhole) (said-allowed s _ said) (said .tables-cover) read-counted r
+  read-sound : Listed (placesOf (e .connection .endpoint)) (tablesAt s) → Reached (settingsOf readWhole) (viewOf readWhole .connection) → Sound readWhole
+  read-sound l r = counted-sound (connectionIn readWhole) (said-allowed s _ said) l read-counted r
 
   -- bytes stand for one engine at most: the one that is read from them
   pub stand-only : (role : Role) (S : Settings) (x : Engine) → StandFor s role S x → (roleOf readWhole ≡ role) × (settingsOf readWhole ≡ S) × (viewOf readWhole ≡ x) × Sound readWhole
@@ -52,7 +54,7 @@ module _ (s : List ℕ) (e : ConnectionEngine) (read : fixedAt s ≡ accept (fix
       let a : roleOf readWhole ≡ role = ap (λ f. f .role) (sym same) ∙ z .role-is in
       let b : settingsOf readWhole ≡ S = ap (λ f. f .settings) (sym same) ∙ z .settings-is in
       let c : viewOf readWhole ≡ x = ap (λ f. engineIn f (tablesAt s)) (sym same) ∙ z .engine-is in
-      (a, b, c, read-sound (subst (λ T. Reached T (viewOf readWhole .connection)) (sym b) (subst (λ y. Reached S (y .connection)) (sym c) (z .reached))))
+      (a, b, c, read-sound (subst (λ f. Listed (suc (f .settings .channelMax)) (tablesAt s)) same (z .listed)) (subst (λ T. Reached T (viewOf readWhole .connection)) (sym b) (subst (λ y. Reached S (y .connection)) (sym c) (z .reached))))
     where
       inside : {f g : Fixed} → _≡_ {A = Verdict Fixed} (accept f) (accept g) → f ≡ g
       inside q = cc
@@ -129,6 +131,9 @@ module _ (s : List ℕ) (e : ConnectionEngine) (read : fixedAt s ≡ accept (fix
         says-moved (fixedIn later (idAt s)) roomy given long-given (fixedIn e (idAt s)) given-says (same .same-role) (same .same-settings)
         (z .held .numbers .within) (reached-limits (settingsOf (whole later t (idAt s))) (viewOf (whole later t (idAt s)) .connection) (z .reached)) goes
 
+    tables-later : tablesAt (put given 16 (movingBytes (fixedIn later (idAt s)))) ≡ t
+    tables-later = tables-same (fixedIn later (idAt s)) roomy given long-given ∙ tables-are s t long (same .same-long)
+
     pub laid-stands : StandFor laidState (roleOf (whole e (tablesAt s) (idAt s))) (settingsOf (whole e (tablesAt s) (idAt s))) (viewOf (whole later t (idAt s)))
     laid-stands = subst
         (λ m. StandFor (put given 16 m) (roleOf (whole e (tablesAt s) (idAt s))) (settingsOf (whole e (tablesAt s) (idAt s))) (viewOf (whole later t (idAt s))))
@@ -137,6 +142,7 @@ module _ (s : List ℕ) (e : ConnectionEngine) (read : fixedAt s ≡ accept (fix
           reads = says-fixed _ _ laid-says;
           role-is = same .same-role;
           settings-is = same .same-settings;
-          engine-is = ap (engineIn (fixedIn later (idAt s))) (tables-same (fixedIn later (idAt s)) roomy given long-given ∙ tables-are s t long (same .same-long));
+          engine-is = ap (engineIn (fixedIn later (idAt s))) tables-later;
+          listed = subst (Listed (placesOf (later .connection .endpoint))) (sym tables-later) (z .held .listed);
           reached = subst (λ S. Reached S (viewOf (whole later t (idAt s)) .connection)) (same .same-settings) (z .reached);
         })

@@ -23,7 +23,7 @@ use Rattle.connection_model.specs.Sound.{Reached}
 use Rattle.channels.specs.Numbers.{one}
 use Rattle.channels.specs.Places.{covers}
 use Rattle.channels.specs.Channels.{counts, countsOk, agreedSays, handOutSays, takenSays}
-use Rattle.channels.specs.Ties.{tiesSays}
+use Rattle.channels.specs.Lists.{tiesSays, Listed}
 use Rattle.channels.specs.declared.OutgoingChannels.{OutgoingChannels}
 use Rattle.layout.specs.Layout.{held}
 use Rattle.local_open.specs.Settings.{checked}
@@ -149,13 +149,14 @@ engineIn f t = record {
       (tiesSays (suc (f .settings .channelMax)) t);
 }
 
--- bytes that stand for an engine that calls can lead to
+-- bytes that stand for an engine that calls can lead to, with lists that agree with its ties
 pub record StandFor (s : List ℕ) (role : Role) (S : Settings) (e : Engine) : Type 0 where
   pub fixed : Fixed
   pub reads : fixedAt s ≡ accept fixed
   pub role-is : fixed .role ≡ role
   pub settings-is : fixed .settings ≡ S
   pub engine-is : engineIn fixed (tablesAt s) ≡ e
+  pub listed : Listed (suc (fixed .settings .channelMax)) (tablesAt s)
   pub reached : Reached S (e .connection)
 
 -- ---- as it is laid

@@ -11,6 +11,7 @@ use Rattle.performatives.specs.Performative.{Performative, remoteChannel}
 use Rattle.frame_decoder.specs.Frame.{Frame, readFrame}
 use Rattle.frame_encoder.specs.Frames.{Settings}
 use Rattle.connection_state.specs.States.{State, CloseReceived, Discarding, End, is, isOneOf, readOpen, readClose}
+use Rattle.channels.specs.Ties.{Tie}
 use Rattle.connection_model.specs.Connection as M
 use Rattle.connection_model.specs.Connection.{Role, dialler, listener, Connection, receiveFrame, tieTo, untie, passOn, newSession, begun, performativeRead, frameRead, apply, decide}
 use Rattle.connection_model.proofs.Rules.{Holds, refused, holds, on-require, on-cond, on-andThen, on-along, everywhere}
@@ -46,17 +47,17 @@ module _ (role : Role) (S : Settings) (c : Connection) (close : Bool) where
   abbrev So : Verdict M.Outcome → Type 0
   So v = Holds (ReadsSo S c close) v
 
-  on-tie : (f : Frame) (o : Option ℕ) → So (tieTo f o)
-  on-tie f none = refused
-  on-tie f (some h) = holds (record { silent = refl; leads = same (c .state); of-close = tt })
+  on-tie : (f : Frame) (r : ℕ) (o : Option ℕ) → So (tieTo f r o)
+  on-tie f r none = refused
+  on-tie f r (some h) = holds (record { silent = refl; leads = same (c .state); of-close = tt })
 
-  on-untie : (f : Frame) (o : Option ℕ) → So (untie f o)
+  on-untie : (f : Frame) (o : Option Tie) → So (untie f o)
   on-untie f none = refused
-  on-untie f (some h) = holds (record { silent = refl; leads = same (c .state); of-close = tt })
+  on-untie f (some t) = holds (record { silent = refl; leads = same (c .state); of-close = tt })
 
-  on-pass : (f : Frame) (code : ℕ) (o : Option ℕ) → So (passOn f code o)
+  on-pass : (f : Frame) (code : ℕ) (o : Option Tie) → So (passOn f code o)
   on-pass f code none = refused
-  on-pass f code (some h) = holds (record { silent = refl; leads = same (c .state); of-close = tt })
+  on-pass f code (some t) = holds (record { silent = refl; leads = same (c .state); of-close = tt })
 
   on-new : (ρ : Role) (f : Frame) (h : ℕ) (l : Option (List ℕ)) → So (newSession ρ f h l)
   on-new dialler f h l = refused
@@ -66,7 +67,7 @@ module _ (role : Role) (S : Settings) (c : Connection) (close : Bool) where
 
   on-begun : (f : Frame) (h : ℕ) (rs : List ℕ) → So (begun role c f h rs)
   on-begun f h [] = on-new role f h (c .handOut)
-  on-begun f h (r ∷ rs) = on-tie f (c .taken r)
+  on-begun f h (r ∷ rs) = on-tie f r (c .taken r)
 
 module _ (role : Role) (S : Settings) (c : Connection) where
   on-performative : (f : Frame) (h : ℕ) (p : Performative) → So role S c (eqb (p .code) 24) (performativeRead role S c f h p)

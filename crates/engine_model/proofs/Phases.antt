@@ -152,16 +152,16 @@ module _ (role : Role) (S : Settings) (c : Connection) where
   on-closes none = on-along unentered sendClose tt (c .state)
   on-closes (some e) = on-along unentered sendCloseWithError tt (c .state)
 
-  on-tied : (ρ : Role) (rs : List ℕ) (h : Option ℕ) → Holds (λ e. apply S e c .state ≡ c .state) (tiedBy ρ rs h)
-  on-tied dialler rs h = holds refl
-  on-tied listener [] h = holds refl
-  on-tied listener (r ∷ rs) none = refused
-  on-tied listener (r ∷ rs) (some h) = holds refl
+  on-tied : (ρ : Role) (rs : List ℕ) (n : ℕ) (h : Option ℕ) → Holds (λ e. apply S e c .state ≡ c .state) (tiedBy ρ rs n h)
+  on-tied dialler rs n h = holds refl
+  on-tied listener [] n h = holds refl
+  on-tied listener (r ∷ rs) n none = refused
+  on-tied listener (r ∷ rs) n (some h) = holds refl
 
   session-same : (s out : List ℕ) → Holds (λ w. after w ≡ c .state) (decide role S c (sendSessionFrame s out))
   session-same s out =
       on-require _ _ _ _ (λ t. on-any _ (sessionFrame (S .channelMax) s) (sessionSent role c s) (λ r. on-require _ _ _ _ (λ u.
-      on-andThen _ _ (on-tied role (beginsFor (eqb (r .1 .code) 17) (r .1)) (c .taken (r .0 .channel))) (λ e q. on-any _ (limited (c .writingLimit) (sessionBytes s r)) _ (λ bytes. holds q)))))
+      on-andThen _ _ (on-tied role (beginsFor (eqb (r .1 .code) 17) (r .1)) (r .0 .channel) (c .taken (r .0 .channel))) (λ e q. on-any _ (limited (c .writingLimit) (sessionBytes s r)) _ (λ bytes. holds q)))))
 
   stays : {v : Verdict M.Outcome} → Holds (λ w. after w ≡ c .state) v → Holds Stays v
   stays refused = refused

@@ -141,7 +141,7 @@ module _ (event : Event) (s a : List ℕ) (lacks : Bool) (is : lacks ≡ not (fi
         let l : viewOf before ≡ next (roleOf before) (settingsOf before) (viewOf before) event = ap viewOf (sym (does .refused k q .0)) ∙ m .leaves in
         subst (λ x. StandFor x (roleOf before) (settingsOf before) (next (roleOf before) (settingsOf before) (viewOf before) event)) (sym (given-back k q))
         (subst (λ x. StandFor s (roleOf before) (settingsOf before) x) l
-        (record { fixed = fixedIn e (idAt s); reads = read; role-is = refl; settings-is = refl; engine-is = refl; reached = z .reached }))
+        (record { fixed = fixedIn e (idAt s); reads = read; role-is = refl; settings-is = refl; engine-is = refl; listed = z .held .listed; reached = z .reached }))
     leads-as (accept r) q z =
         let m = does .meets z in
         subst (λ x. StandFor (put given 16 (movingBytes (fixedIn later []))) (roleOf before) (settingsOf before) x) (m .leaves) (laid-stands s e read later t same (m .sound) (goes z))

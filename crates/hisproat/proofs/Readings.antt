@@ -18,6 +18,7 @@ use Rattle.layout.proofs.Laws.{length-may}
 use Rattle.layout.proofs.Parts.{first, more}
 use Rattle.frame_encoder.specs.Frames.{Settings}
 use Rattle.channels.specs.Numbers.{takenBelow}
+use Rattle.channels.specs.Ties.{handleOf}
 use Rattle.channels.specs.Channels.{agreedMaxSays}
 use Rattle.channels.specs.declared.AgreedMax.{AgreedMax}
 use Rattle.channels.specs.declared.AgreedMax.the-variants.{Absent, Is as Agreed}
@@ -149,11 +150,11 @@ module _ (ch : ℕ) (s a : List ℕ) (room : 5 ≤ length a) (read : ResumedEngi
       reports-handle 5 (takenBytes ch) s a room read reads e known (λ w. viewOf w .connection .taken ch) (λ w. refl) v
       (subst (λ (w : Connection × List ℕ). Looks (View.whole (w .0) (w .1) (idAt s)) (View.viewOf (View.whole (w .0) (w .1) (idAt s)) .taken ch) v) (λ i. (same i, rest-is s 300 i)) (l (idAt s))) k a′ p
 
-  pub tied-told : ((id : List ℕ) → Looks (View.whole c (lentTables s) id) (View.viewOf (View.whole c (lentTables s) id) .ties ch) v) → Reports 5 (tiedBytes ch) s a (told k a′)
+  pub tied-told : ((id : List ℕ) → Looks (View.whole c (lentTables s) id) (handleOf (View.viewOf (View.whole c (lentTables s) id) .ties ch)) v) → Reports 5 (tiedBytes ch) s a (told k a′)
   unfolding tiedBytes
   tied-told l =
-      reports-handle 5 (tiedBytes ch) s a room read reads e known (λ w. viewOf w .connection .ties ch) (λ w. refl) v
-      (subst (λ (w : Connection × List ℕ). Looks (View.whole (w .0) (w .1) (idAt s)) (View.viewOf (View.whole (w .0) (w .1) (idAt s)) .ties ch) v) (λ i. (same i, rest-is s 300 i)) (l (idAt s))) k a′ p
+      reports-handle 5 (tiedBytes ch) s a room read reads e known (λ w. handleOf (viewOf w .connection .ties ch)) (λ w. refl) v
+      (subst (λ (w : Connection × List ℕ). Looks (View.whole (w .0) (w .1) (idAt s)) (handleOf (View.viewOf (View.whole (w .0) (w .1) (idAt s)) .ties ch)) v) (λ i. (same i, rest-is s 300 i)) (l (idAt s))) k a′ p
 
 -- ---- status
 

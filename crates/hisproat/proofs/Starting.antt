@@ -17,6 +17,7 @@ use Rattle.layout.specs.Layout.{held}
 use Rattle.frame_encoder.specs.Frames.{Settings}
 use Rattle.frame_encoder.proofs.Laws.{Within, settings-within}
 use Rattle.channels.specs.Places.{covers}
+use Rattle.channels.specs.Lists.{Listed}
 use Rattle.local_open.specs.Settings.{allowed}
 use Rattle.connection_model.specs.Connection.{Role}
 use Rattle.connection_model.specs.Sound.{Reached}
@@ -166,7 +167,10 @@ module _ (role : Role) (S : Settings) (s : List ℕ) (long : 300 ≤ length s) (
 
     covered : covers (suc (f .settings .channelMax)) (tablesAt given) ≡ true
     unfolding covers
-    covered = ap (λ l. leb (28 * suc (f .settings .channelMax)) (length l)) (tables-are s t long same-long) ∙ le-leb _ _ (z .held .covered)
+    covered = ap (λ l. leb (28 * suc (f .settings .channelMax)) (length l)) (tables-are s t long same-long) ∙ le-leb _ _ (z .held .listed .covered)
+
+    tables-made : tablesAt s′ ≡ t
+    tables-made = ap tablesAt laid ∙ tables-new f roomy settings-roomy given given-room ∙ tables-are s t long same-long
 
     stands : StandFor s′ role S fresh
     stands =
@@ -180,7 +184,8 @@ module _ (role : Role) (S : Settings) (s : List ℕ) (long : 300 ≤ length s) (
           reads = p;
           role-is = begun .begun-role;
           settings-is = begun .begun-settings;
-          engine-is = ap (engineIn f) (ap tablesAt laid ∙ tables-new f roomy settings-roomy given given-room ∙ tables-are s t long same-long) ∙ v;
+          engine-is = ap (engineIn f) tables-made ∙ v;
+          listed = subst (Listed (suc (f .settings .channelMax))) (sym tables-made) (z .held .listed);
           reached = subst (λ (w : Settings × Engine). Reached (w .0) (w .1 .connection)) (λ i. (begun .begun-settings i, v i)) (z .reached);
         }
 

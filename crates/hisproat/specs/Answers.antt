@@ -11,6 +11,7 @@ use Rattle.layout.specs.Layout.{may, held}
 use Rattle.frame_encoder.specs.Frames.{Settings}
 use Rattle.connection_state.specs.States.{numbered}
 use Rattle.channels.specs.Numbers.{one, takenBelow}
+use Rattle.channels.specs.Ties.{handleOf}
 use Rattle.connection_model.specs.Connection.{Role, Answer, wrote, stop, header, otherProtocol, nothingToDo, opened, closed, forward, began, channel, freed}
 use Rattle.engine_model.specs.Engine.{Outcome, Reply, Engine}
 use Rattle.engine_bytes.specs.Bytes.{roleNumber, outcomeNumber, phaseBytes}
@@ -84,4 +85,4 @@ unfoldable pub takenBytes : ℕ → Role → Settings → Engine → List ℕ
 takenBytes ch role S e = may 4 (e .connection .taken ch)
 
 unfoldable pub tiedBytes : ℕ → Role → Settings → Engine → List ℕ
-tiedBytes ch role S e = may 4 (e .connection .ties ch)
+tiedBytes ch role S e = may 4 (handleOf (e .connection .ties ch))

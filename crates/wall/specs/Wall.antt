@@ -1,4 +1,5 @@
--- The starred wall cases of document 01, of calls on a dialler's connection: what they answer and the state that they leave, or what they write into the lent output.
+-- The starred wall cases of document 01, and for a freed channel that of document 02 (wish 7), of calls on a dialler's connection: what they answer and the state that they leave, or what
+-- they write into the lent output.
 -- proofs/Wall.antt computes them.
 -- Assumes nothing: these are definitions.
 use mathlib.Core.Path.{_≡_}
@@ -106,9 +107,9 @@ Wall =
     -- free 1, then 3: next 3, then 1
     × (drawn fourTaken (deallocate 1 ∷ deallocate 3 ∷ allocate 15 ∷ allocate 16 ∷ [])
     ≡ ((accept (freed 11) ∷ accept (freed 13) ∷ accept (channel 3) ∷ accept (channel 1) ∷ []) leaving Opened))
-    -- Begin on 5 for r = 2, free 2: Attach on 5 still reaches the old handle; Begin for 2 gives 24
+    -- Begin on 5 for r = 2, free 2: Attach on 5 gives 24; Begin for 2 gives 24
     × (drawn fourTaken (receiveFrame begin 0 ∷ deallocate 2 ∷ receiveFrame attach 0 ∷ receiveFrame begin 0 ∷ [])
-    ≡ ((accept (forward 20 17 12 8 12) ∷ accept (freed 12) ∷ accept (forward 12 18 12 8 4) ∷ refuse 24 ∷ []) leaving Opened))
+    ≡ ((accept (forward 20 17 12 8 12) ∷ accept (freed 12) ∷ refuse 24 ∷ refuse 24 ∷ []) leaving Opened))
     -- Close without error: 0000000C 02000000 005318 45
     × (seen dialler p1 bothOpen (sendCloseTo none out)
     ≡ writing 12 (0x00 ∷ 0x00 ∷ 0x00 ∷ 0x0C ∷ 0x02 ∷ 0x00 ∷ 0x00 ∷ 0x00 ∷ 0x00 ∷ 0x53 ∷ 0x18 ∷ 0x45 ∷ []))

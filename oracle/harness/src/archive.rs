@@ -6,6 +6,11 @@ use fe2o3_amqp::auth::{Role, Settings};
 /// The fixed part of a state, and a channel's place in the tables after it (crates/engine_bytes/specs/Bytes.antt, crates/channels/specs/Places.antt).
 const FIXED: usize = 300;
 const PLACE: usize = 28;
+/// Fields of a place: of an outgoing channel the first incoming one that is tied through it; of an incoming channel the outgoing one, the next and the previous.
+const FIRST: usize = 2;
+const OUTGOING: usize = 3;
+const NEXT: usize = 5;
+const PREVIOUS: usize = 6;
 /// The link of a taken channel.
 const TAKEN: u32 = 65536;
 const ANSWER: usize = 42;
@@ -189,6 +194,27 @@ impl Archive {
         let from = FIXED + PLACE * channel + 4 * field;
         u32::from_be_bytes(self.state[from..from + 4].try_into().unwrap())
     }
+
+    /// A field that has a channel as one more than its number, and 0 for none.
+    fn other(&self, channel: usize, field: usize) -> Option<usize> {
+        (self.field(channel, field) as usize).checked_sub(1)
+    }
+
+    /// The lists of all outgoing channels, read from the state's bytes: each incoming channel that stands in one, with the outgoing one. Linked both ways.
+    fn listed(&self, places: usize) -> Vec<(u16, u16)> {
+        let mut all = Vec::new();
+        for outgoing in 0..places {
+            let (mut next, mut previous) = (self.other(outgoing, FIRST), None);
+            while let Some(channel) = next {
+                assert!(channel < places && all.len() < places, "a list of ties stays in the tables, and ends");
+                assert_eq!(self.other(channel, PREVIOUS), previous, "a list of ties is linked both ways");
+                all.push((channel as u16, outgoing as u16));
+                (next, previous) = (self.other(channel, NEXT), next);
+            }
+        }
+        all.sort();
+        all
+    }
 }
 
 /// How many bytes of frames wait: they ask for room.
@@ -261,11 +287,14 @@ impl Port for Archive {
         let places = (self.size() - FIXED) / PLACE;
         let with = |channel: usize, field: usize| (channel as u16, self.field(channel, field));
         let taken = (0..used).filter(|channel| self.field(*channel, 0) == TAKEN).map(|channel| with(channel, 1));
-        let ties = (0..places).filter(|channel| self.field(*channel, 3) != 0).map(|channel| with(channel, 4));
+        let ties = (0..places).filter(|channel| self.field(*channel, OUTGOING) != 0).map(|channel| with(channel, 4));
+        let through = (0..places).filter_map(|channel| self.other(channel, OUTGOING).map(|outgoing| (channel as u16, outgoing as u16)));
+        let through: Vec<_> = through.collect();
+        assert_eq!(self.listed(places), through, "each tie stands once in the list of its outgoing channel, and nothing else does");
         let next = |channel: usize| (channel < used).then_some(channel);
         let freed = std::iter::successors(next(head), |channel| next(self.field(*channel, 0) as usize)).take(freed);
         let hand_out = (self.state[19] != 0).then(|| freed.chain(used..=most).map(|channel| channel as u16).collect());
-        Held { taken: taken.collect(), ties: ties.collect(), hand_out }
+        Held { taken: taken.collect(), ties: ties.collect(), through, hand_out }
     }
 
     /// What a copy gives.

@@ -10,6 +10,7 @@ use std::fmt;
 use std::sync::Mutex;
 
 use crate::events::*;
+use crate::ties::Ties;
 use fe2o3_amqp::auth::{Account, Answer, Inner, Mode, Oracle, Outcome, Phase, Refusal, Role, Settings};
 use fe2o3_amqp_types::performatives::Performative;
 
@@ -18,6 +19,7 @@ use fe2o3_amqp_types::performatives::Performative;
 pub enum Rule {
     ShortLength,
     VacantFree,
+    FreedWhileTied,
     OpenWritten,
     CloseWritten,
     EarlyAllocate,
@@ -35,9 +37,10 @@ pub enum Rule {
 }
 
 /// Each rule with its name and what it says.
-pub const RULES: [(Rule, &str, &str); 16] = [
+pub const RULES: [(Rule, &str, &str); 17] = [
     (Rule::ShortLength, "short-length", "a frame's length is 4 to 7: the Rust waits or panics, here 3"),
     (Rule::VacantFree, "vacant-free", "a channel is freed that is not taken: the Rust panics, here 26"),
+    (Rule::FreedWhileTied, "freed-while-tied", "a tied channel is freed: the Rust keeps its ties and hands late frames on, here 24"),
     (Rule::OpenWritten, "open-written", "a refused Open: the Rust writes it before its state check"),
     (Rule::CloseWritten, "close-written", "a refused Close: the Rust writes it before its state check"),
     (Rule::EarlyAllocate, "early-allocate", "a channel before the peer's Open: the Rust gives it, here 21"),
@@ -78,12 +81,19 @@ impl Step {
     fn ends(rule: Rule, held: Account) -> Self {
         Step { rules: vec![rule], ends: true, held: Some(held) }
     }
+
+    /// A frame came for a tie that the Rust alone has.
+    fn is_late(&self) -> bool {
+        self.ends && self.rules.contains(&Rule::FreedWhileTied)
+    }
 }
 
 /// The Rust and the port, side by side.
 pub struct Pair<P> {
     pub rust: Oracle,
     pub port: P,
+    /// The ties that both sides have, and those that the Rust alone has.
+    pub ties: Ties,
     role: Role,
     settings: Settings,
     /// The highest channel that is looked at: one above the local channel-max, where there is one.
@@ -128,6 +138,8 @@ struct Both<'a> {
     settings: &'a Settings,
     before: Account,
     port_before: Status,
+    /// The handle that the Rust alone has for the channel of a frame that came.
+    late: Option<u32>,
     answer: Answer,
     reply: Reply,
 }
@@ -203,6 +215,20 @@ fn in_short(account: &Account) -> Account {
     account
 }
 
+/// The remote-channel of a frame, where it is a Begin that has one.
+fn remote_in(frame: &[u8]) -> Option<u16> {
+    match performative(frame.get(8..size(frame)?)?)?.0 {
+        Performative::Begin(begin) => begin.remote_channel,
+        _ => None,
+    }
+}
+
+/// The channel that a frame came on.
+fn came_on(event: &Event) -> Option<u16> {
+    let Event::Incoming { frame, .. } = event else { return None };
+    frame.get(..8).map(channel)
+}
+
 fn hold(is: bool, what: &str) -> Result<(), String> {
     is.then_some(()).ok_or_else(|| what.to_string())
 }
@@ -212,6 +238,7 @@ impl<P: Port> Pair<P> {
         Pair {
             rust: Oracle::new(role, settings, Mode::Calls),
             port,
+            ties: Ties::default(),
             role,
             settings: settings.clone(),
             top: settings.channel_max.saturating_add(1),
@@ -235,8 +262,8 @@ impl<P: Port> Pair<P> {
             self.backs.iter().filter(|(place, _)| *place == at).for_each(|(_, back)| back.bring(&mut rust));
         }
         assert!(rust.account() == self.rust.account(), "the Rust does the same again");
-        let (port, settings) = (self.port.clone(), self.settings.clone());
-        Pair { rust, port, settings, backs: self.backs.clone(), last: self.last.clone(), ..*self }
+        let (port, ties, settings) = (self.port.clone(), self.ties.clone(), self.settings.clone());
+        Pair { rust, port, ties, settings, backs: self.backs.clone(), last: self.last.clone(), ..*self }
     }
 
     /// Does an event on both sides, and compares what they answer and what they hold.
@@ -270,8 +297,10 @@ impl<P: Port> Pair<P> {
             note_written(&reply.written);
         }
         self.last = reply.clone();
-        let both = Both { event, role: self.role, settings: &settings, before, port_before, answer, reply };
+        let late = came_on(event).and_then(|channel| self.ties.kept(channel));
+        let both = Both { event, role: self.role, settings: &settings, before, port_before, late, answer, reply };
         let mut step = answers(&both, self.limits).map_err(|what| self.finding(&both, &what))?;
+        self.follow_ties(&both, &mut step);
         let back = self.follow(&both, &mut step).map_err(|what| self.finding(&both, &what))?;
         self.backs.extend(back.map(|back| (self.steps, back)));
         self.steps += 1;
@@ -307,7 +336,8 @@ impl<P: Port> Pair<P> {
     /// Brings the Rust to where the port is, and notes what the Rust does not tell.
     fn follow(&mut self, both: &Both, step: &mut Step) -> Result<Option<Back>, String> {
         if both.before.phase == Phase::Running {
-            self.kept = both.failure().map_or(0, outcome_number);
+            let failure = if step.is_late() { Some(Outcome::NotFound) } else { both.failure() };
+            self.kept = failure.map_or(0, outcome_number);
         }
         let back = match open_in(both.event) {
             Some((remote, _)) if both.reply.kind == 7 => Back::Limits { remote: remote.min(16384), local: self.settings.max_frame_size },
@@ -323,6 +353,28 @@ impl<P: Port> Pair<P> {
             step.held = Some(Account { phase: both.before.phase, ..self.rust.account() });
         }
         Ok(Some(back))
+    }
+
+    /// Notes which ties are made, ended and dropped, by what the Rust answers. Where the sides went apart, only frames that went out before that have made any.
+    fn follow_ties(&mut self, both: &Both, step: &mut Step) {
+        if step.ends && !step.rules.contains(&Rule::Oversized) {
+            return;
+        }
+        match (both.event, &both.answer.inner) {
+            (Event::Incoming { frame, .. }, Inner::Forward { code: 17, .. }) => {
+                let remote = remote_in(frame).expect("a Begin that is handed on names a channel");
+                self.ties.tie(channel(frame), remote);
+            }
+            (Event::Incoming { frame, .. }, Inner::Began { channel: taken, .. }) => self.ties.tie(channel(frame), *taken),
+            (Event::Incoming { frame, .. }, Inner::Forward { code: 23, .. }) => self.ties.untie(channel(frame)),
+            (Event::Deallocate(freed), Inner::Freed) => {
+                let handle = both.taken(*freed).expect("a channel that is freed was taken");
+                if self.ties.free(*freed, handle) {
+                    step.rules.push(Rule::FreedWhileTied);
+                }
+            }
+            _ => both.tied_by_sending().into_iter().for_each(|(remote, sender)| self.ties.tie(remote, sender)),
+        }
     }
 
     /// An Open was taken: the Rust has kept its limits, and others are due.
@@ -368,7 +420,7 @@ impl<P: Port> Pair<P> {
         self.accounts(&self.rust.account(), outcome, true, false).map_err(told)
     }
 
-    /// What the port holds is what the Rust holds, or what a rule says instead: of all channels, or of some.
+    /// What the port holds is what the Rust holds, or what a rule says instead: of all channels, or of some. Ties of freed channels the Rust alone has.
     fn accounts(&self, account: &Account, outcome: u8, all: bool, ends: bool) -> Result<(), String> {
         let status = self.port.status();
         let channels: Vec<u16> = match all {
@@ -390,14 +442,18 @@ impl<P: Port> Pair<P> {
         hold(limits.0 == status.reading_limit, "reading limit");
         hold(limits.1 == status.writing_limit, "writing limit");
         hold(account.taken.len() == status.taken, "number of taken channels");
+        let tied = |channel: u16| found(&account.ties, channel).filter(|_| self.ties.is_made(channel));
         for channel in channels {
             hold(found(&account.taken, channel) == self.port.handle_at(channel), "handle at a channel");
-            hold(found(&account.ties, channel) == self.port.tied_handle(channel), "tied handle");
+            hold(tied(channel) == self.port.tied_handle(channel), "tied handle");
         }
         if all {
             let held = self.port.held();
+            let of_the_rust = self.ties.of_the_rust(|channel| found(&account.taken, channel));
+            hold(of_the_rust.as_deref() == Some(&account.ties[..]), "the Rust must keep the ties of freed channels, and have no others");
             hold(account.taken == held.taken, "taken channels");
-            hold(account.ties == held.ties, "ties");
+            hold(self.ties.made() == held.through, "outgoing channels of ties");
+            hold(account.ties.iter().copied().filter(|(channel, _)| self.ties.is_made(*channel)).eq(held.ties), "ties");
             if !ends {
                 let listed = account.agreed.then(|| self.rust.hand_out());
                 let allowed = account.phase == Phase::Running && ![11, 12, 13].contains(&account.state);
@@ -476,6 +532,27 @@ impl Both<'_> {
 
     fn taken(&self, channel: u16) -> Option<u32> {
         found(&self.before.taken, channel)
+    }
+
+    /// The incoming channels that a listener's frames tie as they go out, each with the channel that its Begin is sent on.
+    fn tied_by_sending(&self) -> Vec<(u16, u16)> {
+        let sent = match (self.event, &self.answer.inner) {
+            (_, Inner::Refused(Refusal::CannotBeMade | Refusal::NotTaken)) => None,
+            (Event::Incoming { .. }, inner) if !matches!(inner, Inner::Closed { .. } | Inner::Refused(Refusal::Panicked(_))) => None,
+            _ => sends(self),
+        };
+        let mut ties = Vec::new();
+        for frame in sent.map_or(Vec::new(), |(frames, _, _)| frames) {
+            let sender = channel(frame);
+            match remote_in(frame).filter(|_| self.role == Role::Listener) {
+                // Not found, or over the limit: what comes after it is not sent.
+                Some(_) if self.taken(sender).is_none() => break,
+                _ if rewritten(frame).len() > self.before.writing_limit => break,
+                Some(remote) => ties.push((remote, sender)),
+                None => {}
+            }
+        }
+        ties
     }
 }
 
@@ -636,8 +713,22 @@ fn came(both: &Both, frame: &[u8], limits: Option<(usize, usize)>) -> Result<Ste
             hold(both.reply == reply, "the port must take the Open, without an idle-time-out")?;
             Ok(Step { rules: vec![Rule::ZeroIdle], ends: both.before.phase == Phase::Awaiting, held: None })
         }
+        (None, None) if both.before.state == 9 && session_code(frame).is_some_and(|code| code != 17) => match both.late {
+            Some(handle) => late(both, frame, handle),
+            None => told(both),
+        },
         (None, None) => told(both),
     }
+}
+
+/// A session's frame on a channel whose tie was dropped here, and that the Rust has kept. The Rust hands it to the old handle; the port finds nobody, tells the peer by a Close, and awaits the peer's.
+fn late(both: &Both, frame: &[u8], handle: u32) -> Result<Step, String> {
+    let (length, code) = (size(frame).unwrap_or(0), session_code(frame).unwrap_or(0));
+    both.rust_refuses(Inner::Forward { code, handle }, None, length)?;
+    let written = close(Some(&error("amqp:not-found", None)));
+    let reply = Reply { kind: 1, detail: 24, consumed: length, written, ..Reply::default() };
+    hold(both.reply == reply, "the port must find nobody for a frame of a freed channel's tie")?;
+    Ok(Step::ends(Rule::FreedWhileTied, Account { phase: Phase::Awaiting, state: 12, ..both.before.clone() }))
 }
 
 /// An Open with an idle-time-out of 0, where an Open is taken.

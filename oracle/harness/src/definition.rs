@@ -51,7 +51,8 @@ pub struct Definition {
     agreed: Option<u16>,
     hand_out: Option<VecDeque<u16>>,
     taken: BTreeMap<u16, u32>,
-    ties: BTreeMap<u16, u32>,
+    /// Incoming channels, each with the outgoing channel through which it is tied, and the handle.
+    ties: BTreeMap<u16, (u16, u32)>,
 }
 
 /// The inner answer of an event, without what every reply has.
@@ -266,7 +267,7 @@ impl Definition {
         let mut tie = None;
         if let (Role::Listener, Performative::Begin(begin)) = (self.role, &body.read) {
             if let Some(remote) = begin.remote_channel {
-                tie = Some((remote, *self.taken.get(&read.channel).ok_or(24)?));
+                tie = Some((remote, (read.channel, *self.taken.get(&read.channel).ok_or(24)?)));
             }
         }
         let written = self.limited(frame(read.channel, &written_body(&body)))?;
@@ -286,6 +287,7 @@ impl Definition {
 
     fn deallocate(&mut self, channel: u16) -> Result<u32, u8> {
         let handle = self.taken.remove(&channel).ok_or(26)?;
+        self.ties.retain(|_, (outgoing, _)| *outgoing != channel);
         self.hand_out.as_mut().expect("channels are taken after the peer's Open").push_front(channel);
         Ok(handle)
     }
@@ -311,18 +313,18 @@ impl Definition {
             Performative::Begin(begin) => match begin.remote_channel {
                 Some(remote) => {
                     let handle = *self.taken.get(&remote).ok_or(24)?;
-                    self.ties.insert(read.channel, handle);
+                    self.ties.insert(read.channel, (remote, handle));
                     Ok(forward(handle))
                 }
                 None if self.role == Role::Dialler => Err(25),
                 None => {
                     let channel = self.allocate(spare).map_err(|_| 25)?;
-                    self.ties.insert(read.channel, spare);
+                    self.ties.insert(read.channel, (channel, spare));
                     Ok(Reply { kind: 10, detail: 17, channel, number: spare, body: place, ..Reply::default() })
                 }
             },
-            Performative::End(_) => self.ties.remove(&read.channel).map(forward).ok_or(24),
-            _ => self.ties.get(&read.channel).copied().map(forward).ok_or(24),
+            Performative::End(_) => self.ties.remove(&read.channel).map(|(_, handle)| forward(handle)).ok_or(24),
+            _ => self.ties.get(&read.channel).map(|(_, handle)| forward(*handle)).ok_or(24),
         }
     }
 
@@ -632,13 +634,14 @@ impl Port for Definition {
     }
 
     fn tied_handle(&self, channel: u16) -> Option<u32> {
-        self.ties.get(&channel).copied()
+        self.ties.get(&channel).map(|(_, handle)| *handle)
     }
 
     fn held(&self) -> Held {
-        let pairs = |map: &BTreeMap<u16, u32>| map.iter().map(|(channel, handle)| (*channel, *handle)).collect();
-        let hand_out = self.hand_out.clone().map(Vec::from);
-        Held { taken: pairs(&self.taken), ties: pairs(&self.ties), hand_out }
+        let taken = self.taken.iter().map(|(channel, handle)| (*channel, *handle)).collect();
+        let ties = self.ties.iter().map(|(channel, (_, handle))| (*channel, *handle)).collect();
+        let through = self.ties.iter().map(|(channel, (outgoing, _))| (*channel, *outgoing)).collect();
+        Held { taken, ties, through, hand_out: self.hand_out.clone().map(Vec::from) }
     }
 
     fn given(&self) -> Option<Vec<u16>> {

@@ -108,11 +108,13 @@ pub struct Status {
     pub taken: usize,
 }
 
-/// What the port holds of channels. Both lists with handles are by channel, ascending.
+/// What the port holds of channels. The lists with handles, and that of outgoing channels, are by channel, ascending.
 #[derive(Debug, Clone, PartialEq, Eq)]
 pub struct Held {
     pub taken: Vec<(u16, u32)>,
     pub ties: Vec<(u16, u32)>,
+    /// Each incoming channel that is tied, with the outgoing channel through which it is.
+    pub through: Vec<(u16, u16)>,
     /// The hand-out list; none before a channel-max is agreed.
     pub hand_out: Option<Vec<u16>>,
 }
@@ -275,6 +277,20 @@ pub fn performative(body: &[u8]) -> Option<(Performative, &[u8])> {
     let rest = &body[body.len() - reader.rest().len()..];
     let read = Performative::deserialize(&mut Deserializer::new(SliceReader::new(body))).ok()?;
     Some((read, rest))
+}
+
+/// The code of a session's performative in a frame that was judged.
+pub fn session_code(frame: &[u8]) -> Option<u8> {
+    Some(match performative(frame.get(8..size(frame)?)?)?.0 {
+        Performative::Begin(_) => 17,
+        Performative::Attach(_) => 18,
+        Performative::Flow(_) => 19,
+        Performative::Transfer(_) => 20,
+        Performative::Disposition(_) => 21,
+        Performative::Detach(_) => 22,
+        Performative::End(_) => 23,
+        Performative::Open(_) | Performative::Close(_) => return None,
+    })
 }
 
 /// Whether a body that the Rust reads has a symbol for a descriptor: its own, or that of its error.

@@ -1,7 +1,7 @@
-//! Every channel taken and every incoming channel tied, and then freed and untied, up to the highest channel-max.
+//! Every channel taken and every incoming channel tied, and then freed and untied, in both orders, up to the highest channel-max.
 //! Answers are compared event by event. What both sides hold is looked at after each stage, and then whole: with tens of thousands of channels that takes long.
 
-use crate::compare::Pair;
+use crate::compare::{Pair, Rule};
 use crate::events::*;
 use crate::random::Dice;
 use crate::{Side, Tally};
@@ -37,7 +37,8 @@ impl Full<'_> {
     fn swift(&mut self, event: &Event, named: &[(u16, u32)]) -> Result<(), String> {
         self.tally.events += 1;
         let step = self.pair.swift(event, named)?;
-        assert!(step.rules.is_empty(), "no rule is due");
+        assert!(step.rules.iter().all(|rule| *rule == Rule::FreedWhileTied) && !step.ends, "no other rule is due");
+        self.tally.count(&step.rules);
         Ok(())
     }
 
@@ -106,6 +107,17 @@ impl Full<'_> {
         Ok(())
     }
 
+    /// The peer's Ends of these channels.
+    fn end(&mut self, channels: &[u16]) -> Result<(), String> {
+        channels.iter().try_for_each(|channel| self.swift(&incoming(end(*channel), 0), &[]))
+    }
+
+    /// The incoming channels that are tied on both sides, in any order.
+    fn tied(&mut self) -> Vec<u16> {
+        let channels = self.pair.ties.made().into_iter().map(|(channel, _)| channel).collect();
+        self.shuffled(channels)
+    }
+
     fn all(&mut self, agreed: u16) -> Result<(), String> {
         let most = agreed as usize + 1;
         let begun = if self.role == Role::Listener { BEGUN.min(most) } else { 0 };
@@ -115,15 +127,28 @@ impl Full<'_> {
         let every = self.shuffled((0..=self.settings.channel_max).collect());
         self.stage(|full| full.tie(&every))?;
         self.step(&incoming(transfer(self.settings.channel_max, 5), 0))?;
+        // A third of the ties end, and then channels are freed while they are tied.
+        let ended = self.tied();
+        self.stage(|full| full.end(&ended[..ended.len() / 3]))?;
         self.stage(|full| full.free(most / 3))?;
-        self.stage(|full| (0..most / 2).try_for_each(|_| full.allocate()))?;
+        self.stage(|full| (0..(most / 2).max(1)).try_for_each(|_| full.allocate()))?;
+        let some = self.shuffled(every.clone());
+        self.stage(|full| full.tie(&some[..some.len() / 2]))?;
         self.stage(|full| full.free(1))?;
-        let ended = self.shuffled(every);
-        let (some, others) = ended.split_at(ended.len() / 2);
-        self.stage(|full| some.iter().try_for_each(|channel| full.swift(&incoming(end(*channel), 0), &[])))?;
-        self.stage(|full| full.tie(some))?;
-        self.stage(|full| others.iter().try_for_each(|channel| full.swift(&incoming(end(*channel), 0), &[])))?;
-        self.stage(|full| (1..most).try_for_each(|_| full.allocate()))?;
+        // Every incoming channel is tied through one outgoing channel: half of these end, and the others are dropped at once.
+        self.stage(|full| full.tie(&every))?;
+        let ended = self.tied();
+        self.stage(|full| full.end(&ended[..ended.len() / 2]))?;
+        self.stage(|full| full.free(0))?;
+        // The order that a hub keeps: all ties end before their channels are freed.
+        self.stage(|full| (0..most).try_for_each(|_| full.allocate()))?;
+        self.stage(|full| full.tie(&every))?;
+        let ended = self.tied();
+        self.stage(|full| full.end(&ended))?;
+        let times = self.tally.times(Rule::FreedWhileTied);
+        self.stage(|full| full.free(0))?;
+        assert!(self.tally.times(Rule::FreedWhileTied) == times, "nothing was tied");
+        self.stage(|full| (0..most).try_for_each(|_| full.allocate()))?;
         self.step(&Event::Allocate(2))?;
         // The peer begins one more session: there is no channel left, or the engine is a dialler.
         self.step(&incoming(begin(0, None), 3))

@@ -25,6 +25,7 @@ mod full;
 mod loops;
 mod random;
 mod record;
+mod ties;
 
 use std::collections::{BTreeMap, HashSet, VecDeque};
 use std::process::exit;
@@ -82,6 +83,10 @@ impl Tally {
         }
     }
 
+    fn times(&self, rule: Rule) -> u64 {
+        self.rules.get(&rule).copied().unwrap_or(0)
+    }
+
     fn found(&mut self, what: &str) {
         self.findings += 1;
         if self.findings <= SHOWN {
@@ -91,7 +96,7 @@ impl Tally {
 
     fn report(&self, rules: bool) {
         for (rule, name, says) in RULES.into_iter().filter(|_| rules) {
-            println!("  {:>9}  {name}: {says}", self.rules.get(&rule).copied().unwrap_or(0));
+            println!("  {:>9}  {name}: {says}", self.times(rule));
         }
         println!("{}", self.totals());
     }
@@ -137,10 +142,10 @@ fn last_step(pair: &mut Pair<Side>, role: Role, letters: &Letters, list: &[usize
     }
 }
 
-type Key = (Account, Vec<u16>, events::Status);
+type Key = (Account, Vec<(u16, u16)>, Vec<u16>, events::Status);
 
 fn key(pair: &Pair<Side>) -> Key {
-    (pair.rust.account(), pair.rust.hand_out(), pair.port.status())
+    (pair.rust.account(), pair.ties.made(), pair.rust.hand_out(), pair.port.status())
 }
 
 /// How many engines that wait or have stopped are tried with events that they do not take.

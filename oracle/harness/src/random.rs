@@ -2,12 +2,16 @@
 
 use crate::compare::Pair;
 use crate::events::*;
+use crate::ties::Ties;
 use crate::{Side, Tally, SHOWN};
 use fe2o3_amqp::auth::{Account, Phase, Role, Settings};
 
 /// Local channel-maxes. From `MANY` on channels are chosen beside the limits too, and crowds of sessions come.
 const CHANNEL_MAXES: [u16; 8] = [0, 1, 2, 7, 255, 256, 4096, 65535];
 const MANY: u16 = 255;
+
+/// The state in which sessions' frames are read.
+const OPENED: u8 = 9;
 
 /// How many times as long as another list one with a crowd may be.
 const LONGER: usize = 4;
@@ -59,7 +63,11 @@ fn settings(dice: &mut Dice) -> Settings {
 struct Place<'a> {
     role: Role,
     settings: &'a Settings,
+    /// With the ties that both sides have.
     account: Account,
+    ties: &'a Ties,
+    /// The ties that the Rust alone has: a frame for one of them ends a list.
+    late: Vec<(u16, u32)>,
     room: bool,
 }
 
@@ -86,12 +94,13 @@ impl Place<'_> {
         }
     }
 
-    /// Any channel. Of many it is often one beside a limit, one of the lowest, or one that is tied.
+    /// Any channel. Of many it is often one beside a limit, one of the lowest, or one that is tied, on both sides or in the Rust alone.
     fn any_channel(&self, dice: &mut Dice) -> u16 {
         let highest = self.settings.channel_max;
         match if highest < MANY { 7 } else { dice.below(8) } {
             0 | 1 => self.edge(dice),
-            2 | 3 if !self.account.ties.is_empty() => dice.pick(&self.account.ties).0,
+            2 if !self.account.ties.is_empty() => dice.pick(&self.account.ties).0,
+            3 if !self.late.is_empty() => dice.pick(&self.late).0,
             4 => dice.below(4) as u16,
             _ => dice.below(highest as u64 + 1) as u16,
         }
@@ -102,6 +111,16 @@ impl Place<'_> {
         let (highest, agreed) = (self.settings.channel_max, self.account.channel_max);
         let edges = [254, 255, 256, 257, agreed, agreed.saturating_add(1), highest.saturating_sub(1), highest];
         dice.pick(&edges).min(highest)
+    }
+
+    /// A session leaves: in one order the peer's Ends come first, in the other the channel is freed while it is tied.
+    fn leaves(&self, dice: &mut Dice, channel: u16) -> Event {
+        match self.ties.one_through(channel) {
+            Some(tied) if self.account.state == OPENED && !dice.one_in(3) => {
+                Event::Incoming { frame: end(tied), spare: 0, waiting: Vec::new() }
+            }
+            _ => Event::Deallocate(channel),
+        }
     }
 
     /// A Begin that came.
@@ -260,6 +279,10 @@ fn incoming(dice: &mut Dice, place: &Place) -> Vec<u8> {
         6..=60 => frame(0, &[]),
         61..=400 => place.begin(dice),
         _ if place.account.ties.is_empty() && !dice.one_in(100) => place.begin(dice),
+        _ if !place.late.is_empty() && dice.one_in(100) => {
+            let channel = dice.pick(&place.late).0;
+            place.between(dice, channel)
+        }
         _ => {
             let channel = place.channel(dice, &place.account.ties);
             place.between(dice, channel)
@@ -272,8 +295,17 @@ fn incoming(dice: &mut Dice, place: &Place) -> Vec<u8> {
     }
 }
 
+/// A handle: any, or one of a few, so that several channels have it.
+fn any_handle(dice: &mut Dice) -> u32 {
+    if dice.one_in(3) {
+        dice.below(3) as u32
+    } else {
+        dice.roll() as u32
+    }
+}
+
 fn event(dice: &mut Dice, place: &Place) -> Event {
-    let handle = dice.roll() as u32;
+    let handle = any_handle(dice);
     let waits = place.account.phase == Phase::Awaiting && !dice.one_in(20);
     match if waits { 0 } else { dice.below(1000) } {
         0..=499 => {
@@ -283,7 +315,10 @@ fn event(dice: &mut Dice, place: &Place) -> Event {
             Event::Incoming { frame, spare: handle, waiting }
         }
         500..=659 => Event::Allocate(handle),
-        660..=779 if !place.account.taken.is_empty() || dice.one_in(20) => Event::Deallocate(place.channel(dice, &place.account.taken)),
+        660..=779 if !place.account.taken.is_empty() || dice.one_in(20) => {
+            let channel = place.channel(dice, &place.account.taken);
+            place.leaves(dice, channel)
+        }
         780..=959 => Event::Outgoing(place.to_send(dice)),
         991 => Event::Close { waiting: place.waiting(dice) },
         992 => Event::CloseWithError {
@@ -333,17 +368,21 @@ impl Crowd {
             *self = Crowd::new(dice);
         }
         self.leaving |= taken.len() >= self.most || !place.room;
-        let handle = dice.roll() as u32;
+        let handle = any_handle(dice);
         let incoming = |frame| Event::Incoming { frame, spare: handle, waiting: Vec::new() };
         let begins = if self.leaving { 12 } else { 16 };
         match dice.below(20) {
-            0..=10 if self.leaving => Event::Deallocate(dice.pick(taken).0),
+            0..=10 if self.leaving => {
+                let channel = dice.pick(taken).0;
+                place.leaves(dice, channel)
+            }
             0..=11 => Event::Allocate(handle),
             at if at <= begins && place.role == Role::Listener && place.room && dice.one_in(3) => {
                 incoming(begin(place.any_channel(dice), None))
             }
             at if at <= begins && !taken.is_empty() => incoming(begin(place.any_channel(dice), Some(dice.pick(taken).0))),
             17 if !taken.is_empty() => Event::Outgoing(begin(dice.pick(taken).0, Some(place.any_channel(dice)))),
+            18 if !place.late.is_empty() && dice.one_in(40) => incoming(transfer(dice.pick(&place.late).0, 9)),
             18 if !ties.is_empty() => incoming(transfer(dice.pick(ties).0, 9)),
             _ if !ties.is_empty() => incoming(end(dice.pick(ties).0)),
             _ => Event::Tick,
@@ -397,9 +436,11 @@ impl Setting {
 
     /// An event for where the pair is now.
     pub fn event(&mut self, dice: &mut Dice, pair: &Pair<Side>) -> Event {
-        let account = pair.rust.account();
+        let mut account = pair.rust.account();
+        account.ties.retain(|(channel, _)| pair.ties.is_made(*channel));
+        let (ties, late) = (&pair.ties, pair.ties.all_kept());
         let room = account.taken.len() <= account.channel_max as usize;
-        let place = Place { role: self.role, settings: &self.settings, account, room };
+        let place = Place { role: self.role, settings: &self.settings, account, ties, late, room };
         match &mut self.crowd {
             Some(crowd) if place.account.phase == Phase::Running && !dice.one_in(30) => crowd.event(dice, &place),
             _ => event(dice, &place),

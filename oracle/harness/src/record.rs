@@ -1,7 +1,8 @@
 //! A sample of lists with what was answered, as text, for replaying without the Rust (tests/c/replay.c).
 //!
 //! Every list was compared while it was recorded. So an `is` line is what the Rust answered, in the numbers of the C interface, but for the events that have a `rule` line:
-//! there the Rust differs as the rule says. Before `end` stands what the Rust holds. Which of the numbers 3 to 7 it is, the Rust does not tell either: it knows a transport error only.
+//! there the Rust differs as the rule says. Before `end` stands what the Rust holds; `dropped` is a channel that is tied there alone, because its outgoing channel was freed.
+//! Which of the numbers 3 to 7 it is, the Rust does not tell either: it knows a transport error only.
 
 use crate::compare::{Pair, Step};
 use crate::events::{hex, Event, Port};
@@ -61,9 +62,13 @@ fn tell(pair: &Pair<Side>, event: &Event, step: &Step) {
 /// What the Rust holds at the end of a list.
 fn end(pair: &Pair<Side>) {
     let account = pair.rust.account();
-    for (word, list) in [("taken", &account.taken), ("tied", &account.ties)] {
-        for (channel, handle) in list {
-            println!("{word} {channel} {handle}");
+    for (channel, handle) in &account.taken {
+        println!("taken {channel} {handle}");
+    }
+    for (channel, handle) in &account.ties {
+        match pair.ties.is_made(*channel) {
+            true => println!("tied {channel} {handle}"),
+            false => println!("dropped {channel}"),
         }
     }
     println!("end");
@@ -85,6 +90,35 @@ fn step(pair: &mut Pair<Side>, event: &Event) -> bool {
         end(pair);
     }
     !step.ends && pair.port.status().phase != 2
+}
+
+/// A list of letters.
+fn spelled(role: Role, letters: &Letters, names: &[&str]) {
+    let mut pair = begin(role, &crate::settings());
+    for name in names {
+        if !step(&mut pair, &letters[named(letters, name)].1) {
+            return;
+        }
+    }
+    end(&pair);
+}
+
+/// Channels that are freed while they are tied: a late frame, a late End, one for a channel that was given anew, and a channel that is tied again. Then the other order.
+fn freed(letters: &Letters) {
+    let opening = ["send header", "header", "send Open", "Open", "allocate 1"];
+    let rest: [&[&str]; 6] = [
+        &["Begin 0 for 0", "free 0", "Attach 0"],
+        &["Begin 0 for 0", "free 0", "End 0"],
+        &["Begin 1 for 0", "free 0", "allocate 2", "Transfer 1"],
+        &["Begin 0 for 0", "free 0", "allocate 2", "Begin 0 for 0", "Attach 0", "End 0", "free 0"],
+        &["allocate 1", "Begin 0 for 0", "Begin 0 for 1", "free 0", "Attach 0", "free 1", "Attach 0"],
+        &["Begin 1 for 0", "Transfer 1", "End 1", "free 0", "allocate 2", "Begin 1 for 0", "Transfer 1"],
+    ];
+    for role in [Role::Dialler, Role::Listener] {
+        rest.iter().for_each(|rest| spelled(role, letters, &[&opening[..], rest].concat()));
+    }
+    spelled(Role::Listener, letters, &[&opening[..], &["send Begin on 0 for 1", "free 0", "Transfer 1"]].concat());
+    spelled(Role::Listener, letters, &[&opening[..], &["Begin 1", "free 1", "Transfer 1"]].concat());
 }
 
 /// A walk through the alphabet.
@@ -125,10 +159,8 @@ fn long(mut dice: Dice, mut setting: Setting, length: usize) {
 pub fn record() {
     println!("# Made by `bin/oracle harness record`. oracle/harness/src/record.rs says what the lines mean.");
     let letters = crate::alphabet::alphabet();
-    let mut over = begin(Role::Listener, &crate::settings());
-    for name in ["header of SASL", "allocate 1"] {
-        step(&mut over, &letters[named(&letters, name)].1);
-    }
+    spelled(Role::Listener, &letters, &["header of SASL", "allocate 1"]);
+    freed(&letters);
     (1..=250).for_each(|seed| walk(seed, &letters));
     let random = |seed| {
         let mut dice = Dice::new(seed);

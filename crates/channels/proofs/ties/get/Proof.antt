@@ -7,11 +7,14 @@ use Rattle.channels.proofs.Tying.{found-above, found-short, found-none,
 use Rattle.channels.proofs.ties.get.Statement.{statement}
 use Rattle.channels.proofs.ties.get.Tie as tie
 
-returns : tie.Need-returns
-returns c = search (found-above, needs)
-
 wide-requires : tie.Need-wide-requires
 wide-requires c κs = search needs
+
+wide-requires-2 : tie.Need-wide-requires-2
+wide-requires-2 c κs = search needs
+
+returns : tie.Need-returns
+returns c = search (found-above, needs)
 
 has-requires : tie.Need-has-requires
 has-requires c κs = search needs
@@ -35,8 +38,9 @@ pub get-spec : {M : Type 1} → statement M
 get-spec =
     tie.close
     (tie.spec
-    returns
     wide-requires
+    wide-requires-2
+    returns
     has-requires
     returns-2
     field-requires

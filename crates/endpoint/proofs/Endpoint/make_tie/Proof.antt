@@ -13,6 +13,9 @@ enum-known-tie c = search needs
 returns : tie.Need-returns
 returns c = search steps
 
+channel-max-requires : tie.Need-channel-max-requires
+channel-max-requires c κs = search needs
+
 tie-requires : tie.Need-tie-requires
 tie-requires c κs = search needs
 
@@ -23,4 +26,4 @@ returns-2 : tie.Need-returns-2
 returns-2 c = search steps
 
 pub make-tie-spec : {M : Type 1} → statement M
-make-tie-spec = tie.close (tie.spec enum-known-tie returns tie-requires same-length returns-2)
+make-tie-spec = tie.close (tie.spec enum-known-tie returns channel-max-requires tie-requires same-length returns-2)

@@ -40,6 +40,9 @@ same-length-2 c = search needs
 returns-2 : tie.Need-returns-2
 returns-2 c = search steps
 
+channel-max-requires : tie.Need-channel-max-requires
+channel-max-requires c κs = search needs
+
 tie-requires : tie.Need-tie-requires
 tie-requires c κs = search needs
 
@@ -67,6 +70,7 @@ on-incoming-begin-spec =
     refused-requires
     same-length-2
     returns-2
+    channel-max-requires
     tie-requires
     forward-requires
     same-length-3

@@ -25,6 +25,9 @@ same-length c = search needs
 returns : tie.Need-returns
 returns c = search steps
 
+channel-max-requires : tie.Need-channel-max-requires
+channel-max-requires c κs = search needs
+
 untie-requires : tie.Need-untie-requires
 untie-requires c κs = search needs
 
@@ -47,6 +50,7 @@ on-incoming-end-spec =
     refused-requires
     same-length
     returns
+    channel-max-requires
     untie-requires
     forward-requires
     same-length-2

@@ -34,6 +34,9 @@ same-length c = search needs
 returns-2 : tie.Need-returns-2
 returns-2 c = search steps
 
+channel-max-requires : tie.Need-channel-max-requires
+channel-max-requires c κs = search needs
+
 tie-requires : tie.Need-tie-requires
 tie-requires c κs = search needs
 
@@ -59,6 +62,7 @@ on-new-session-spec =
     refused-requires-2
     same-length
     returns-2
+    channel-max-requires
     tie-requires
     body-len-requires
     same-length-2
