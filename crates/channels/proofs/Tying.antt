@@ -19,7 +19,7 @@ use Rattle.channels.specs.Lists.{tiesSays, Listed, TiedAs, Clears, Chang
 use Rattle.channels.specs.Links.{leadTo, comeFrom, bypassed, takenOut, unbound, bound, pushed}
 use Rattle.channels.proofs.Kept.{KeepsNumbers, numbers-same, covers-is, covers-true, covers-kept}
 use Rattle.channels.proofs.Fields.{hasPlace, has-false, length-write, field-same, field-beside, field-apart, past-write}
-use Rattle.channels.proofs.Limits.{apart}
+use Rattle.channels.proofs.Limits.{apart, both}
 use Rattle.channels.proofs.Steps.{with-map}
 use Rattle.channels.proofs.Marks.{says-past, says-none, says-some, says-same, told, Marked, marks, agrees}
 use Rattle.channels.proofs.Links.{lead-first, lead-next, come-one, out-long, out-same, out-numbers, out-mark, out-mark-other, push-long, push-numbers, push-other, push-mark, push-handle}
@@ -37,10 +37,6 @@ listed-marks n s i = marks n s (i .lists) (i .agree)
 -- whether a channel is one of the first, and there is a place for each of these
 abbrev pub isPlace : List ℕ → ℕ → ℕ → Bool
 isPlace s highest channel = leb channel highest && covers (suc highest) s
-
-both : (a b : Bool) → a && b ≡ true → (a ≡ true) × (b ≡ true)
-both true b e = (refl, e)
-both false b e = apart (cc)
 
 module _ (s : List ℕ) (highest channel : ℕ) (b : Bool) (e : b ≡ isPlace s highest channel) where
   pub place-low : b ≡ true → channel ≤ highest

@@ -22,7 +22,7 @@ use Rattle.channels.specs.declared.OutgoingChannels.{OutgoingChannels}
 use Rattle.channels.specs.declared.Held.{Held}
 use Rattle.channels.specs.declared.AgreedMax.{AgreedMax}
 use Rattle.channels.specs.declared.AgreedMax.the-variants as A
-use Rattle.channels.proofs.Limits.{apart, closed-limits}
+use Rattle.channels.proofs.Limits.{both, closed-limits}
 use Rattle.channels.proofs.Steps.{counted}
 use Rattle.local_open.specs.declared.LocalOpen.{LocalOpen}
 use Rattle.local_open.specs.Settings.{openSays}
@@ -106,10 +106,6 @@ module _ (e : Endpoint) (x : State) (b : Bool) (t : (id : List ℕ) → b ≡ fi
 
   pub resumed-not : b ≡ false → Broken ≡ resumedAs x e
   resumed-not y = rw (← t [], y)
-
-both : (a b : Bool) → a && b ≡ true → (a ≡ true) × (b ≡ true)
-both true b e = (refl, e)
-both false b e = apart (cc)
 
 -- ---- what the test means
 
