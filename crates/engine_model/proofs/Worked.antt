@@ -48,10 +48,10 @@ states =
     Start ∷ HeaderReceived ∷ HeaderSent ∷ HeaderExchange ∷ Opened ∷ OpenSent ∷ OpenPipe ∷ OpenReceived ∷ OpenClosePipe ∷ CloseReceived ∷ ClosePipe ∷ CloseSent
     ∷ Discarding ∷ End ∷ []
 
-settings : Settings
+unfoldable pub settings : Settings
 settings = record { containerId = 0x70 ∷ 0x31 ∷ []; maxFrameSize = 4096; channelMax = 7; idleTimeOut = none }
 
-out : List ℕ
+unfoldable pub out : List ℕ
 out = replicate 32768 0
 
 abbrev inState : Phase → State → Engine
@@ -64,7 +64,7 @@ table role p event = rows (λ x. judge role settings (inState p x) event) states
 -- ---- the error path
 
 -- the Close that tells of an error
-errorClose : List ℕ → Option (List ℕ) → List ℕ
+unfoldable pub errorClose : List ℕ → Option (List ℕ) → List ℕ
 errorClose c d = frameBytes 0 (closeBody (some (record { condition = c; description = d })))
 
 -- a frame that was not delivered: amqp:not-found, "Session is not found"
@@ -146,7 +146,7 @@ closeWithError : List ℕ
 closeWithError = 0 ∷ 0 ∷ 0 ∷ 0x17 ∷ 2 ∷ 0 ∷ 0 ∷ 0 ∷ 0 ∷ 0x53 ∷ 0x18 ∷ 0xC0 ∷ 10 ∷ 1 ∷ 0 ∷ 0x53 ∷ 0x1D ∷ 0xC0 ∷ 4 ∷ 1 ∷ 0xA3 ∷ 1 ∷ 0x78 ∷ []
 
 -- an End on channel 0, that waits to be sent
-endOn0 : List ℕ
+unfoldable pub endOn0 : List ℕ
 endOn0 = 0 ∷ 0 ∷ 0 ∷ 0x0C ∷ 2 ∷ 0 ∷ 0 ∷ 0 ∷ 0 ∷ 0x53 ∷ 0x17 ∷ 0x45 ∷ []
 
 -- where it leaves CloseReceived behind, the waiting frame goes out, then a Close without error
@@ -235,11 +235,11 @@ other-frame-awaited = refl
 
 -- ---- frames
 
-amqp : List ℕ
+unfoldable pub amqp : List ℕ
 amqp = 0x41 ∷ 0x4D ∷ 0x51 ∷ 0x50 ∷ 0x00 ∷ 0x01 ∷ 0x00 ∷ 0x00 ∷ []
 
 -- container-id h, channel-max 3
-peerOpen : List ℕ
+unfoldable pub peerOpen : List ℕ
 peerOpen = 0 ∷ 0 ∷ 0 ∷ 0x16 ∷ 2 ∷ 0 ∷ 0 ∷ 0 ∷ 0 ∷ 0x53 ∷ 0x10 ∷ 0xC0 ∷ 9 ∷ 4 ∷ 0xA1 ∷ 1 ∷ 0x68 ∷ 0x40 ∷ 0x40 ∷ 0x60 ∷ 0 ∷ 3 ∷ []
 
 -- ours: container-id p1, max-frame-size 4096, channel-max 7
@@ -248,7 +248,7 @@ ownOpen =
     0 ∷ 0 ∷ 0 ∷ 0x1B ∷ 2 ∷ 0 ∷ 0 ∷ 0 ∷ 0 ∷ 0x53 ∷ 0x10 ∷ 0xC0 ∷ 0x0E ∷ 4 ∷ 0xA1 ∷ 2 ∷ 0x70 ∷ 0x31 ∷ 0x40 ∷ 0x70 ∷ 0 ∷ 0 ∷ 0x10 ∷ 0 ∷ 0x60 ∷ 0 ∷ 7 ∷ []
 
 -- a Begin on channel 5 that begins a session
-begin : List ℕ
+unfoldable pub begin : List ℕ
 begin = 0 ∷ 0 ∷ 0 ∷ 0x12 ∷ 2 ∷ 0 ∷ 0 ∷ 5 ∷ 0 ∷ 0x53 ∷ 0x11 ∷ 0xC0 ∷ 5 ∷ 4 ∷ 0x40 ∷ 0x43 ∷ 0x43 ∷ 0x43 ∷ []
 
 -- a Begin on channel 0 that answers it, and how it is written: handle-max written out
@@ -260,7 +260,7 @@ answerWritten =
     0 ∷ 0 ∷ 0 ∷ 0x19 ∷ 2 ∷ 0 ∷ 0 ∷ 0 ∷ 0 ∷ 0x53 ∷ 0x11 ∷ 0xC0 ∷ 0x0C ∷ 5 ∷ 0x60 ∷ 0 ∷ 5 ∷ 0x43 ∷ 0x43 ∷ 0x43 ∷ 0x70 ∷ 0xFF ∷ 0xFF ∷ 0xFF ∷ 0xFF ∷ []
 
 -- a Transfer on channel 5 with a payload of two bytes
-transfer : List ℕ
+unfoldable pub transfer : List ℕ
 transfer = 0 ∷ 0 ∷ 0 ∷ 0x11 ∷ 2 ∷ 0 ∷ 0 ∷ 5 ∷ 0 ∷ 0x53 ∷ 0x14 ∷ 0xC0 ∷ 2 ∷ 1 ∷ 0x43 ∷ 1 ∷ 2 ∷ []
 
 -- ---- each error in Opened, and the Close that tells of it
@@ -362,7 +362,7 @@ life =
     receiveHeader amqp ∷ sendHeader out ∷ incoming peerOpen 0 [] out ∷ sendOpen out ∷ incoming begin 77 [] out ∷ outgoing answer out ∷ incoming transfer 78 [] out
     ∷ closeOrder none endOn0 out ∷ tick out ∷ allocate 79 ∷ incoming close 80 [] out ∷ tick out ∷ []
 
-abbrev repliesOf : List Seen → List (Verdict Reply)
+abbrev pub repliesOf : List Seen → List (Verdict Reply)
 repliesOf [] = []
 repliesOf (s ∷ ss) = s .reply ∷ repliesOf ss
 
@@ -376,7 +376,7 @@ outputsOf [] = []
 outputsOf (s ∷ ss) = writtenIn (s .reply) (s .output) ∷ outputsOf ss
 
 -- goes on, with the bytes consumed and written and what the connection answered
-abbrev goesOn : ℕ → ℕ → Answer → Verdict Reply
+abbrev pub goesOn : ℕ → ℕ → Answer → Verdict Reply
 goesOn c w a = accept (record { ended = none; consumed = c; written = w; inner = some (accept a) })
 
 abbrev ends : Outcome → ℕ → ℕ → Answer → Verdict Reply
