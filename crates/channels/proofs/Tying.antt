@@ -11,9 +11,8 @@ use lib.Dec.{leb}
 use lib.ListN.{length}
 use borrow.Author.Tests.{eq-eqb, ne-eqb, le-leb, lt-leb, leb-true}
 use Rattle.channels.specs.Places.{Covers, covers, field, write, put}
-use Rattle.channels.specs.Numbers.{MapTo, nowhere, with, one}
-use Rattle.channels.specs.Ties.{Tie, tieOf, Ties, handleOf, through}
-use Rattle.channels.specs.declared.Held.{Held}
+use Rattle.channels.specs.Numbers.{MapTo, with, one}
+use Rattle.channels.specs.Ties.{tieOf, handleOf, through}
 use Rattle.channels.specs.declared.Held.the-variants.{Handle, Nothing}
 use Rattle.channels.specs.Lists.{tiesSays, Listed, TiedAs, Clears, Changes, FindsTied}
 use Rattle.channels.specs.Links.{leadTo, comeFrom, bypassed, takenOut, unbound, bound, pushed}
@@ -21,7 +20,7 @@ use Rattle.channels.proofs.Kept.{KeepsNumbers, numbers-same, covers-is,
 use Rattle.channels.proofs.Fields.{hasPlace, has-false, length-write, field-same, field-beside, field-apart, past-write}
 use Rattle.channels.proofs.Limits.{apart, both}
 use Rattle.channels.proofs.Steps.{with-map}
-use Rattle.channels.proofs.Marks.{says-past, says-none, says-some, says-same, told, Marked, marks, agrees}
+use Rattle.channels.proofs.Marks.{says-past, says-none, says-some, says-same, Marked, marks, agrees}
 use Rattle.channels.proofs.Links.{lead-first, lead-next, come-one, out-long, out-same, out-numbers, out-mark, out-mark-other, push-long, push-numbers, push-other, push-mark, push-handle}
 use Rattle.channels.proofs.Agreeing.{fewer, out-agrees, longer, push-agrees}
 

@@ -28,7 +28,7 @@ abbrev pub Linked : List ℕ → ℕ → ℕ → List ℕ → Type 0
 Linked s p e [] = e ≡ 0
 Linked s p e (k ∷ l) = (e ≡ suc k) × (field s k 6 ≡ p) × Linked s (suc k) (field s k 5) l
 
--- lists and ties of n channels agree: each list is linked, and a channel stands once in the list of the channel through which it is tied, and in no other
+-- lists and ties of n channels agree: each list is linked, a channel stands once in the list of the channel through which it is tied, and in no other, and that is one of the n
 pub record Agree (n : ℕ) (s : List ℕ) (lists : Lists) : Type 0 where
   pub linked : (ch : ℕ) → ch < n → Linked s 0 (field s ch 2) (lists ch)
   pub each : (ch k : ℕ) → count k (lists ch) ≡ one (through ch (tiesSays n s k))
