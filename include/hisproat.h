@@ -75,17 +75,12 @@
  *
  * 1. hisproat_dialler or hisproat_listener.
  * 2. hisproat_send_header, and hisproat_receive_header with what came. A dialler sends first.
- * 3. hisproat_send_open, and hisproat_on_incoming with the peer's Open (kind OPENED). A dialler may send its header and its Open at once, and then read both of the peer's.
+ * 3. hisproat_send_open, and hisproat_on_incoming with the peer's Open (kind OPENED).
  * 4. Frames: hisproat_on_incoming for each that comes, hisproat_on_outgoing for each that goes out. hisproat_on_tick writes an empty frame; call it at least once
  *    in half the peer's idle-time-out, which the answer to its Open has.
  * 5. The sessions end, by an End on each side, and their channels are freed. Then hisproat_on_close; or, with sessions or without, hisproat_on_close_with_error; or the
  *    peer's Close comes, and the engine answers it by itself.
  * 6. The answer says stopped. Send what was written, then hang up.
- *
- * To ask only whether a peer is there, a dialler sends its header, its Open and a Close in one write (hisproat_send_header, hisproat_send_open, hisproat_on_close), and then
- * reads the peer's header, Open and Close. The outcome is FINE where all of them came; the second example does this. A Close that comes before the peer's header is an
- * error of the peer's (20). A Close with an error cannot be sent along: after hisproat_on_close_with_error no header is taken any more (20), and so nothing of what the
- * peer says can be read. Close with an error once the peer's header has come.
  *
  * The phase (hisproat_status) is one of three. Running takes every event. An engine that met an error of the peer writes a Close that tells it, and then is
  * awaiting: until the peer's Close it takes only hisproat_on_incoming and hisproat_on_end_of_input, and the outcome to come is kept. Stopped takes no event.
@@ -100,7 +95,7 @@
  * comes takes 768. Give a thread that calls 12 KiB besides its own.
  *
  *
- * EXAMPLE 1: a listener that reads a whole recorded input. Returns the outcome, or -1 where an argument was refused.
+ * EXAMPLE: a listener that reads a whole recorded input. Returns the outcome, or -1 where an argument was refused.
  *
  *     #include "hisproat.h"
  *
@@ -135,56 +130,6 @@
  *                 next_handle += 1; // the session has the handle that was spare
  *             // KIND_FORWARD: the body of hisproat_body_length bytes at input + hisproat_body_start goes to the session hisproat_handle
  *             input += hisproat_consumed(answer), length -= hisproat_consumed(answer);
- *         }
- *     }
- *
- *
- * End of the example.
- *
- * EXAMPLE 2: a dialler that asks with one write whether a pad is there. `receive` waits for bytes, and gives 0 where no more will come. Returns the outcome, or -1 where what
- * came is no header. If the pad is there, the outcome is FINE and *opened is 1, or REMOTE_CLOSED_WITH_ERROR if it closed with an error; if it speaks another protocol, or hung
- * up after its header, the outcome is FINE and *opened is 0; with any other outcome it said nothing, broke off, or erred.
- *
- *     #include "hisproat.h"
- *     #include <string.h>
- *
- *     int ask(void (*send)(const uint8_t *bytes, size_t count), size_t (*receive)(uint8_t *bytes, size_t room), int *opened)
- *     {
- *         static uint8_t state[HISPROAT_STATE_SIZE(0)], output[HISPROAT_OUTPUT_ROOM + 512], answer[HISPROAT_ANSWER_SIZE];
- *         static uint8_t input[HISPROAT_MIN_FRAME_SIZE]; // the longest frame that is read here
- *         const uint8_t *none = (const uint8_t *)"";
- *         size_t sent = 0, length = 0;
- *         int headed = 0;
- *
- *         hisproat_dialler(state, sizeof state, (const uint8_t *)"hub", 3, HISPROAT_MIN_FRAME_SIZE, 0, 0, 0);
- *         hisproat_send_header(state, sizeof state, output, sizeof output, answer, sizeof answer);
- *         sent += hisproat_written(answer);
- *         hisproat_send_open(state, sizeof state, output + sent, sizeof output - sent, answer, sizeof answer);
- *         sent += hisproat_written(answer);
- *         hisproat_on_close(state, sizeof state, none, 0, output + sent, sizeof output - sent, answer, sizeof answer);
- *         sent += hisproat_written(answer);
- *         send(output, sent); // header, Open and Close
- *         *opened = 0;
- *         for (;;) {
- *             uint8_t refused = headed ? hisproat_on_incoming(state, sizeof state, input, length, 0, none, 0, output, sizeof output, answer, sizeof answer)
- *                                      : hisproat_receive_header(state, sizeof state, input, length, answer, sizeof answer);
- *             if (refused == HISPROAT_REFUSED_BYTES_MISSING) { // it comes in pieces
- *                 size_t more = receive(input + length, sizeof input - length);
- *                 length += more;
- *                 if (more > 0)
- *                     continue;
- *                 refused = hisproat_on_end_of_input(state, sizeof state, output, sizeof output, answer, sizeof answer);
- *             } else if (refused == 0 && answer[HISPROAT_AT_KIND] == HISPROAT_KIND_OTHER_PROTOCOL) {
- *                 refused = hisproat_on_tick(state, sizeof state, output, sizeof output, answer, sizeof answer);
- *             }
- *             if (refused != 0)
- *                 return -1;
- *             if (answer[HISPROAT_AT_STOPPED])
- *                 return answer[HISPROAT_AT_OUTCOME];
- *             *opened |= answer[HISPROAT_AT_KIND] == HISPROAT_KIND_OPENED;
- *             headed = 1;
- *             length -= hisproat_consumed(answer);
- *             memmove(input, input + hisproat_consumed(answer), length);
  *         }
  *     }
  *
@@ -369,7 +314,6 @@ uint8_t hisproat_send_header(uint8_t *state, size_t state_len, uint8_t *output, 
 
 /* Reads a protocol header at the front of the input, and consumes 8 bytes. Kinds HEADER, OTHER_PROTOCOL. Refusals: 9, 8, 20 (phase), 1, 2,
  * 20 (state).
- * The peer's header comes once, before its first frame, in the states START, HEADER_SENT, OPEN_PIPE (header and Open were sent) and OPEN_CLOSE_PIPE (and a Close): 20 elsewhere.
  * A malformed header (2) leaves the engine as it was. */
 uint8_t hisproat_receive_header(uint8_t *state, size_t state_len, const uint8_t *input, size_t input_len, uint8_t *answer, size_t answer_len);
 
@@ -385,8 +329,7 @@ uint8_t hisproat_send_open(uint8_t *state, size_t state_len, uint8_t *output, si
  * Kinds: NOTHING, OPENED, CLOSED, FORWARD, BEGAN, REFUSED.
  * CLOSED: the engine has stopped. The outcome says which side closed; or, where a waiting frame could not go out, what that led to.
  * REFUSED: the frame is wrong. With the detail 3 to 7 the engine has stopped with TRANSPORT_ERROR. With 20, 24 or 25 it has written a Close that tells the peer,
- * unless one was sent before, and now awaits the peer's Close; or it has stopped, where there is nothing to close, or where header, Open and Close were sent and the peer's header
- * has not come (OPEN_CLOSE_PIPE). While awaiting, a frame that is wrong stops it.
+ * unless one was sent before, and now awaits the peer's Close, or, where there is nothing to close, it has stopped. While awaiting, a frame that is wrong stops it.
  * Consumed: the frame's length; 0 with the details 3 and 4, where it is not known where the next frame starts.
  * Refusals: 9, 8, 20 (stopped), 1 (call again with more bytes), then those of the waiting frames: 1, 3, 5, 6, 7. */
 uint8_t hisproat_on_incoming(uint8_t *state, size_t state_len, const uint8_t *frame, size_t frame_len, uint32_t spare, const uint8_t *waiting,
@@ -402,8 +345,7 @@ uint8_t hisproat_on_incoming(uint8_t *state, size_t state_len, const uint8_t *fr
 uint8_t hisproat_on_close(uint8_t *state, size_t state_len, const uint8_t *waiting, size_t waiting_len, uint8_t *output, size_t output_len,
                           uint8_t *answer, size_t answer_len);
 
-/* The same with an error: its condition in ASCII and, where has_description is not 0, its description in UTF-8. From then on only the peer's Close is looked at, and no header
- * is taken: call it when the peer's header has come. Header, Open and a Close with an error in one write are sent, but nothing of what the peer answers can be read.
+/* The same with an error: its condition in ASCII and, where has_description is not 0, its description in UTF-8. From then on only the peer's Close is looked at.
  * Refusals: 9, 8 (the state or a text), 20 (phase), then those of the waiting frames. */
 uint8_t hisproat_on_close_with_error(uint8_t *state, size_t state_len, const uint8_t *condition, size_t condition_len, uint8_t has_description,
                                      const uint8_t *description, size_t description_len, const uint8_t *waiting, size_t waiting_len,
@@ -431,8 +373,7 @@ uint8_t hisproat_on_tick(uint8_t *state, size_t state_len, uint8_t *output, size
 
 /* No more bytes will come. The engine has stopped. Where an Open was sent and no Close, a Close with an error is written, for a peer that still reads.
  * The outcome is FINE after this side's Close with an error, or its Close before the peer's Open (the states DISCARDING and CLOSE_PIPE), and where the connection was
- * over; else TRANSPORT_ERROR, also after a Close without an error that was not answered and while awaiting; and ILLEGAL_STATE before this side's Open, and where header,
- * Open and Close were sent and nothing came (OPEN_CLOSE_PIPE).
+ * over; else TRANSPORT_ERROR, also after a Close without an error that was not answered and while awaiting; and ILLEGAL_STATE before this side's Open.
  * Kind NONE. Refusals: 9, 8, 20 (stopped). */
 uint8_t hisproat_on_end_of_input(uint8_t *state, size_t state_len, uint8_t *output, size_t output_len, uint8_t *answer, size_t answer_len);
 

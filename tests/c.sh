@@ -1,5 +1,5 @@
 #!/usr/bin/env bash
-# Tests of the C side: the headers as C and as C++, the examples, that the archive needs no other code, the tests through C (under valgrind too), the stack, that a tie costs the same however many there are, the frame
+# Tests of the C side: the headers as C and as C++, the example, that the archive needs no other code, the tests through C (under valgrind too), the stack, that a tie costs the same however many there are, the frame
 # reader, the instructions of a width, a bound on those of reading, and the example hub against its stored output and with damaged pads.
 # Usage: tests/c.sh [ARCHIVE]; without ARCHIVE the library is built by rt, with the kit that keeps the module of it for tests/fuzz.sh. Installs gcc, g++ and valgrind where they are missing.
 # The last line is 'c.sh: N parts passed', and the exit status 0, where nothing was wrong.
@@ -33,18 +33,18 @@ for header in hisproat hisproat_frame_reader; do
 done
 passed "the headers are C11 and C++11"
 
-# the examples in the header's first comment
-tests/examples.sh > "$work/example.c"
-grep -q '^int listen_to' "$work/example.c" && grep -q '^int ask' "$work/example.c"
+# the example in the header's first comment
+sed -n '/^ \* EXAMPLE/,/^ \* End of the example/s/^ \*     //p' include/hisproat.h > "$work/example.c"
+grep -q hisproat_on_incoming "$work/example.c"
 gcc -std=c11 "${warnings[@]}" "$work/example.c" tests/c/example.c "$archive" -o "$work/example"
 "$work/example"
-passed "the header's examples do what they say"
+passed "the header's example does what it says"
 
 needed=$(nm -u "$archive" | awk '$1 == "U" { print $2 }')
 [ -z "$needed" ] || { echo "c.sh: the archive needs" $needed >&2; exit 1; }
 passed "the archive needs nothing from outside"
 
-gcc -std=c11 -O2 "${warnings[@]}" -Itests/c tests/c/{crossing,rig,judge,fence,pipelined,sizes,fresh,ties,state_bytes,altered,many}.c "$archive" -o "$work/crossing"
+gcc -std=c11 -O2 "${warnings[@]}" -Itests/c tests/c/{crossing,rig,judge,fence,sizes,fresh,ties,state_bytes,altered,many}.c "$archive" -o "$work/crossing"
 gcc -std=c11 -O2 "${warnings[@]}" examples/hub.c "$archive" -o "$work/hub"
 gcc -std=c11 -O2 "${warnings[@]}" tests/c/speed.c "$archive" -pthread -o "$work/speed"
 passed "the tests, the hub and the measuring program are built"

@@ -241,6 +241,16 @@ def other_lives():
     header("pad")
     call("pad", "receive_header", 0, SASL)
     call("pad", "tick")
+    title("another life: the pad waits for no answer")
+    made()
+    header("pad")
+    call("hub", "send_header")
+    passes("pad", "send_open")
+    call("pad", "receive_header", 0, AMQP)
+    passes("pad", "tick")
+    passes("pad", "send_close")
+    passes("hub", "send_close")
+    passes("pad", "send_close")
     title("another life: the hub's Open and the pad's Close cross")
     made()
     header("pad")
@@ -253,45 +263,6 @@ def other_lives():
     call("pad", "tick")
     call("pad", "allocate_session", 20)
     passes("hub", "send_close")
-
-
-def sent_at_once():
-    """A pad that sends before the hub's header has come; the hub's header is then read from here, since the hub has written more since."""
-    title("another life: the pad sends its Open before the hub's header has come, and a Close is not taken before it")
-    made()
-    header("pad")
-    call("hub", "send_header")
-    passes("pad", "send_open")
-    call("pad", "receive_header", 0, MALFORMED)
-    call("pad", "receive_frame", 0, frame(0, CLOSE))
-    passes("pad", "tick")
-    call("pad", "receive_header", 0, AMQP)
-    call("pad", "receive_header", 0, AMQP)
-    passes("hub", "send_open")
-    call("pad", "allocate_session", 21)
-    title("another life: the pad sends its Close too, and only asks whether the hub is there")
-    made()
-    header("pad")
-    call("hub", "send_header")
-    passes("pad", "send_open")
-    call("hub", "send_open")
-    call("pad", "send_close")
-    call("hub", "receive_frame", 0, "<")
-    call("pad", "receive_frame", 0, frame(0, CLOSE))
-    call("pad", "receive_header", 0, AMQP)
-    call("pad", "receive_frame", 0, frame(0, CLOSE))
-    call("pad", "receive_frame", 0, "<")
-    passes("hub", "send_close")
-    both("tick")
-    for close, words in ((None, ""), ("send_close", ", and a Close"), ("send_close_with_error", ", and a Close with an error")):
-        title("another life: SASL answers header and Open" + words)
-        call("pad", "dialler", 4096)
-        call("pad", "send_header")
-        call("pad", "send_open")
-        if close:
-            call("pad", close)
-        call("pad", "receive_header", 0, SASL)
-        call("pad", "tick")
 
 
 # The tables of each end have 65,536 bytes, and a channel has 28 of them: there are places for 2,340.
@@ -382,6 +353,6 @@ def large_ends():
     call("hub", "allocate_session", 9000)
 
 
-for part in (opening, sessions, traffic, ends, late, same_handle, refusals, closing, other_lives, sent_at_once, large_opening, large_sessions, large_ends):
+for part in (opening, sessions, traffic, ends, late, same_handle, refusals, closing, other_lives, large_opening, large_sessions, large_ends):
     part()
 print("\n".join(lines))

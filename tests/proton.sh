@@ -1,6 +1,5 @@
 #!/usr/bin/env bash
-# The library's reading and writing of bodies beside an independent implementation: Qpid Proton's codec, from Debian (tests/c/proton.c tells how). And a Proton
-# server that is sent header, Open and Close in one write (tests/c/proton_dial.c).
+# The library's reading and writing of bodies beside an independent implementation: Qpid Proton's codec, from Debian (tests/c/proton.c tells how).
 # Usage: tests/proton.sh [SEED [ROUNDS]]; the same seed gives the same run. Needs the archive (HISPROAT_ARCHIVE, default target/staticlib/libhisproat.a, which
 # is built by rt where it is missing). Installs gcc and libqpid-proton11-dev where they are missing.
 # The last line is 'proton.sh: N bodies, M values, K named disagreements, 0 wrong', and the exit status 0, where the two differ only as a rule names.
@@ -18,8 +17,5 @@ fi
 if [ -z "${HISPROAT_ARCHIVE:-}" ] && [ ! -f "$archive" ]; then
     tests/prove.sh staticlib hisproat
 fi
-tests/examples.sh > "$work/examples.c"
-gcc -std=c11 -O2 -Wall -Wextra -Werror -pedantic -Iinclude "$work/examples.c" tests/c/proton_dial.c "$archive" -lqpid-proton -o "$work/proton_dial"
-"$work/proton_dial"
 gcc -std=c11 -O2 -Wall -Wextra -Werror -pedantic -Iinclude -Itests/c tests/c/proton.c tests/c/proton_bodies.c "$archive" -lqpid-proton -o "$work/proton"
 "$work/proton" "$@" | sed '$s/^/proton.sh: /'

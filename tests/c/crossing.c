@@ -941,7 +941,7 @@ static void kept(Tally *t)
 int main(int argc, char **argv)
 {
     Tally t = { .part = "" }, totals = { .part = "" };
-    void (*const parts[])(Tally *) = { wall, conversation, refusals, outcomes, kept, pipelined, sizes, fresh_tables, ties };
+    void (*const parts[])(Tally *) = { wall, conversation, refusals, outcomes, kept, sizes, fresh_tables, ties };
     void (*const long_parts[])(Tally *, int) = { state_bytes, altered_tables, tie_walks, many_channels };
     size_t count = sizeof parts / sizeof parts[0];
     for (size_t i = 0; i < count; i++) {

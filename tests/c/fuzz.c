@@ -545,17 +545,13 @@ static int sent_refused(Bytes frames)
     return refused ? refused : DEPENDS;
 }
 
-/* The states in which a header is taken: Part 2 has these four. */
-static const uint32_t TAKES_HEADER =
-    BIT(HISPROAT_STATE_START) | BIT(HISPROAT_STATE_HEADER_SENT) | BIT(HISPROAT_STATE_OPEN_PIPE) | BIT(HISPROAT_STATE_OPEN_CLOSE_PIPE);
-
 static int header_refused(Bytes header, uint8_t state)
 {
     if (header.len < 8)
         return HISPROAT_REFUSED_BYTES_MISSING;
     if (memcmp(header.at, "AMQP", 4) != 0 || header.at[4] == 1 || header.at[4] > 3)
         return HISPROAT_REFUSED_HEADER_MALFORMED;
-    return BIT(state) & TAKES_HEADER ? 0 : HISPROAT_REFUSED_ILLEGAL_STATE;
+    return BIT(state) & (BIT(HISPROAT_STATE_START) | BIT(HISPROAT_STATE_HEADER_SENT)) ? 0 : HISPROAT_REFUSED_ILLEGAL_STATE;
 }
 
 static int channel_refused(const uint8_t *s)
@@ -827,33 +823,6 @@ static void check_state(const Call *c, const uint8_t *a, const uint8_t *s, const
     demand(a[HISPROAT_AT_OUTCOME] == (stopped ? now[AT_OUTCOME] : 0), "the answer and the state differ about the outcome");
 }
 
-/* Where a header and an Open lead, by the state before; START where they are not taken. */
-static const uint8_t AFTER_HEADER[HISPROAT_STATE_END + 1] = {
-    [HISPROAT_STATE_START] = HISPROAT_STATE_HEADER_RECEIVED,
-    [HISPROAT_STATE_HEADER_SENT] = HISPROAT_STATE_HEADER_EXCHANGE,
-    [HISPROAT_STATE_OPEN_PIPE] = HISPROAT_STATE_OPEN_SENT,
-    [HISPROAT_STATE_OPEN_CLOSE_PIPE] = HISPROAT_STATE_CLOSE_PIPE,
-};
-static const uint8_t AFTER_OPEN[HISPROAT_STATE_END + 1] = {
-    [HISPROAT_STATE_HEADER_EXCHANGE] = HISPROAT_STATE_OPEN_RECEIVED,
-    [HISPROAT_STATE_OPEN_SENT] = HISPROAT_STATE_OPENED,
-    [HISPROAT_STATE_CLOSE_PIPE] = HISPROAT_STATE_CLOSE_SENT,
-};
-
-/* A header, an Open and a Close are taken where they may come, and lead where they should. A Close is answered at once, unless a waiting frame could not go out. */
-static void check_move(const Call *c, uint8_t kind, uint8_t before, uint8_t after)
-{
-    static const uint32_t TAKES_CLOSE = BIT(HISPROAT_STATE_OPEN_RECEIVED) | BIT(HISPROAT_STATE_OPEN_SENT) | BIT(HISPROAT_STATE_OPENED) | BIT(HISPROAT_STATE_CLOSE_SENT) | BIT(HISPROAT_STATE_DISCARDING);
-    if (kind == HISPROAT_KIND_HEADER)
-        demand(after == AFTER_HEADER[before] && after != HISPROAT_STATE_START, "a header leads elsewhere");
-    if (kind == HISPROAT_KIND_OTHER_PROTOCOL)
-        demand(after == HISPROAT_STATE_END && (BIT(before) & TAKES_HEADER), "another protocol leads elsewhere");
-    if (kind == HISPROAT_KIND_OPENED)
-        demand(after == AFTER_OPEN[before] && after != HISPROAT_STATE_START, "an Open leads elsewhere");
-    if (kind == HISPROAT_KIND_CLOSED)
-        demand((BIT(before) & TAKES_CLOSE) && (after == HISPROAT_STATE_END || (after == HISPROAT_STATE_CLOSE_RECEIVED && waiting_frames(c).len > 0)), "a Close leads elsewhere");
-}
-
 /* What a refusal inside an event leads to. */
 static void check_error_path(const Round *r)
 {
@@ -882,7 +851,6 @@ static void check_event(const Round *r, const Call *c, const uint8_t *s)
     check_numbers(a);
     check_written(r, c, s);
     check_state(c, a, s, now);
-    check_move(c, kind, s[AT_STATE], now[AT_STATE]);
     check_error_path(r);
     if (!c->whole)
         return;

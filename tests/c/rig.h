@@ -235,9 +235,6 @@ void altered_tables(Tally *tally, int all);
 void ties(Tally *tally);
 void tie_walks(Tally *tally, int all);
 
-/* engines that send before the peer's header has come */
-void pipelined(Tally *tally);
-
 /* connections with 65,536 channels */
 void many_channels(Tally *tally, int all);
 

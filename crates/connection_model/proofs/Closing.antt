@@ -14,10 +14,9 @@ use Rattle.frame_decoder.specs.Frame.{Frame, read_frame, session_frame, begins_f
 use Rattle.frame_encoder.specs.Frames.{Settings, ErrorText, limited}
 use Rattle.session_frame.specs.Session.{session_bytes}
 use Rattle.connection_state.specs.States.{State, Start, HeaderReceived, HeaderSent, HeaderExchange, OpenPipe, OpenClosePipe, OpenReceived, OpenSent, ClosePipe, Opened, CloseReceived, CloseSent, Discarding, End, is, is_one_of, Move, along, send_header, receive_header, receive_other_header, send_open, read_open, send_close, send_close_with_error, read_close, silent}
-use Rattle.connection_state.proofs.States.{is_state}
 use Rattle.channels.specs.Ties.{Tie}
 use Rattle.connection_model.specs.Connection.{Role, dialler, listener, Connection, fresh, Call, send_header_to, receive_header_from, send_open_to, receive_frame, send_close_to, send_session_frame, allocate, deallocate, tick, Answer, wrote, stop, header, other_protocol, nothing_to_do, opened, closed, forward, began, channel, freed, Outcome, apply, headed, tie_to, untie, pass_on, new_session, begun, performative_read, frame_read, closes, tied_by, session_sent, given, released, decide, after, next, run}
-use Rattle.connection_model.proofs.Rules.{Holds, refused, holds, on_require, on_cond, on_any, on_and_then, on_along, and_left, and_right, implied, each, one_of, each_row, true_is, false_is, everywhere}
+use Rattle.connection_model.proofs.Rules.{Holds, refused, holds, on_require, on_cond, on_any, on_and_then, on_along, and_left, and_right, implied, each, one_of, each_row}
 
 -- ---- what happened in a list of calls
 
@@ -81,7 +80,7 @@ met_other = happens (λ call a. is_other a)
 -- ---- what a state tells of it
 
 pub data Past : Type 0 where
-  -- none of it; a Close was written alone; the peer's was read alone; both, or another protocol's header and no peer's Close
+  -- none of it; a Close was written alone; the peer's was read, and one written or not; both, or another protocol's header alone
   nothing written peers over : Past
 
 abbrev pub past : State → Past
@@ -104,8 +103,8 @@ past End = over
 abbrev pub agrees : Past → Bool → Bool → Bool → Bool
 agrees nothing w r o = not w && (not r && not o)
 agrees written w r o = w && (not r && not o)
-agrees peers w r o = r && (not w && not o)
-agrees over w r o = cond o (not r) (w && r)
+agrees peers w r o = r && not o
+agrees over w r o = cond o (not w && not r) (w && r)
 
 abbrev pub tells : State → Bool → Bool → Bool → Bool
 tells x w r o = agrees (past x) w r o
@@ -268,6 +267,10 @@ module _ (role : Role) (S : Settings) where
 
 -- ---- and so, state by state
 
+is_true : (b : Bool) → T b → b ≡ true
+is_true true t = refl
+is_true false t = absurd t
+
 -- the states between a Close that was written and the peer's
 abbrev pub closing : List State
 closing = OpenClosePipe ∷ ClosePipe ∷ CloseSent ∷ Discarding ∷ []
@@ -284,27 +287,15 @@ told_unread x w true o u t = absurd (implied (tells x w true o) false (one_of (�
     none_read false = tt
 told_unread x w false o u t = refl
 
-told_received : (w r o : Bool) → T (tells CloseReceived w r o) → (w ≡ false) × (r ≡ true)
-told_received w r o t =
-    (false_is w (and_left (not w) (not o) (and_right r (not w && not o) t)), true_is r (and_left r (not w && not o) t))
-
--- another protocol's header leads to End alone, and is met by none that read a Close
-abbrev ends_unread : State → Bool → Bool → Bool
-ends_unread x w r = cond (tells x w r true) (is End x && not r) true
-
-told_other : (x : State) (w r : Bool) → T (tells x w r true) → T (is End x && not r)
-told_other x w r = implied (tells x w r true) (is End x && not r)
-    (both_at (λ b. ends_unread x w b) (both_at (λ a. both (λ b. ends_unread x a b)) (everywhere (λ y. both (λ a. both (λ b. ends_unread y a b))) tt tt x) w) r)
-
 told_end : (w r o : Bool) → T (tells End w r o) → ((w ≡ true) × (r ≡ true)) ⊎ (o ≡ true)
 told_end w r true t = inr refl
-told_end w r false t = inl (true_is w (and_left w r t), true_is r (and_right w r t))
+told_end w r false t = inl (is_true w (and_left w r t), is_true r (and_right w r t))
 
 module _ (role : Role) (S : Settings) (calls : List Call) where
   -- OpenClosePipe, ClosePipe, CloseSent, Discarding: a Close was written
   pub closing_written : T (is_one_of closing (run role S fresh calls).state) → wrote_close role S fresh calls ≡ true
   closing_written u =
-      true_is (wrote_close role S fresh calls)
+      is_true (wrote_close role S fresh calls)
       (told_written (run role S fresh calls).state (wrote_close role S fresh calls) (read_peer_close role S fresh calls) (met_other role S fresh calls) u (told role S calls))
 
   -- and none was read
@@ -312,19 +303,12 @@ module _ (role : Role) (S : Settings) (calls : List Call) where
   closing_unread u =
       told_unread (run role S fresh calls).state (wrote_close role S fresh calls) (read_peer_close role S fresh calls) (met_other role S fresh calls) u (told role S calls)
 
-  -- CloseReceived: a Close was read, and none was written
-  pub received_read : (run role S fresh calls).state ≡ CloseReceived → (wrote_close role S fresh calls ≡ false) × (read_peer_close role S fresh calls ≡ true)
+  -- CloseReceived: a Close was read
+  pub received_read : (run role S fresh calls).state ≡ CloseReceived → read_peer_close role S fresh calls ≡ true
   received_read e =
-      told_received (wrote_close role S fresh calls) (read_peer_close role S fresh calls) (met_other role S fresh calls)
-      (subst (λ x. T (tells x (wrote_close role S fresh calls) (read_peer_close role S fresh calls) (met_other role S fresh calls))) e (told role S calls))
-
-  -- another protocol's header was met: this is the end, and no Close was read. One may have been written before, in one go with the header and the Open
-  pub other_end : met_other role S fresh calls ≡ true → ((run role S fresh calls).state ≡ End) × (read_peer_close role S fresh calls ≡ false)
-  other_end e =
-      let x = (run role S fresh calls).state in
-      let r = read_peer_close role S fresh calls in
-      let t : T (is End x && not r) = told_other x (wrote_close role S fresh calls) r (subst (λ o. T (tells x (wrote_close role S fresh calls) r o)) e (told role S calls)) in
-      (sym (is_state End x (and_left (is End x) (not r) t)), false_is r (and_right (is End x) (not r) t))
+      is_true (read_peer_close role S fresh calls)
+      (and_left (read_peer_close role S fresh calls) (not (met_other role S fresh calls))
+      (subst (λ x. T (tells x (wrote_close role S fresh calls) (read_peer_close role S fresh calls) (met_other role S fresh calls))) e (told role S calls)))
 
   -- End: a Close was written and one was read, or another protocol's header was met
   pub end_both :

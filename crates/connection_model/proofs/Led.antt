@@ -4,28 +4,28 @@ use mathlib.Core.Path.{◌≡◌, refl, ◌∙◌, ap, subst}
 use mathlib.Core.Bool.{Bool, true, false, cond}
 use mathlib.Core.List.{List, [], ◌∷◌, ◌++◌}
 use mathlib.Core.Option.{Option, none, some}
-use Prim.Native.Nat.{ℕ, ◌≤◌}
+use Prim.Native.Nat.{ℕ, ◌+◌, ◌≤◌}
 use native.Mathlib.Omega.{arith}
 use lib.Dec.{T, leb, eqb}
 use lib.ListN.{length, length-append}
 use borrow.Author.Tests.{le-leb}
 use Rattle.octets.specs.Verdict.{accept, require, and_then}
 use Rattle.octets.specs.Octets.{bytes_of, starts_with}
-use Rattle.octets.proofs.Laws.{require_on}
+use Rattle.octets.specs.Output.{room_for}
+use Rattle.octets.proofs.Laws.{require_on, then_accept}
 use Rattle.text.specs.Ascii.{ascii}
-use Rattle.protocol_header.specs.Header.{other, is_protocol_id, protocol_id, starts_with_all, header, has_id, is_amqp100, protocol, received, version100}
+use Rattle.protocol_header.specs.Header.{amqp100, other, is_protocol_id, protocol_id, starts_with_all, header, has_id, is_amqp100, protocol, received, version100}
 use Rattle.values.specs.Null.{null}
 use Rattle.serializer.specs.Written.{uint, ushort, text_header, text, list_header, joined, trimmed, composite_header, composite}
 use Rattle.serializer.proofs.Laws.{text_len_short, header_few}
 use Rattle.frame_encoder.specs.Frames.{Settings, ErrorText, frame_header, frame_bytes, limited, idle_field, open_fields, open_body, error_ok, close_ok, description_field, error_fields, error_field, close_body}
 use Rattle.frame_encoder.proofs.Laws.{length_frame}
 use Rattle.session_frame.proofs.Trim.{trimmed_short}
-use Rattle.connection_state.specs.States.{State, Start, HeaderReceived, HeaderSent, HeaderExchange, OpenPipe, OpenClosePipe, OpenReceived, OpenSent, ClosePipe, Opened, CloseReceived, CloseSent, Discarding, End, is_one_of, along, send_header, receive_header, receive_other_header, send_open, send_close, send_close_with_error, read_close, after_open}
-use Rattle.connection_model.specs.Connection.{Role, Connection, fresh, Call, send_header_to, receive_header_from, send_open_to, receive_frame, send_close_to, Outcome, go, apply, closes, decide, after, next, run}
+use Rattle.connection_state.specs.States.{State, Start, HeaderReceived, HeaderSent, HeaderExchange, OpenPipe, OpenClosePipe, OpenReceived, OpenSent, ClosePipe, Opened, CloseReceived, CloseSent, Discarding, End, is, is_one_of, along, send_header, receive_header, receive_other_header, send_open, send_close, send_close_with_error, read_close, after_open}
+use Rattle.connection_model.specs.Connection.{Role, Connection, connection, fresh, Call, send_header_to, receive_header_from, send_open_to, receive_frame, send_close_to, go, apply, frame_read, closes, after, next, run}
 use Rattle.connection_model.proofs.Valid.{both}
 use Rattle.connection_model.proofs.ProbeFrames.{aClose, close_content, read_whole}
 use Rattle.connection_model.proofs.Probes.{space, space_room, amqp, amqp_received}
-use Rattle.connection_model.proofs.Moves.{header_sent_is, header_read, other_read, open_sent, close_sent, close_read_is}
 
 -- ---- lists of calls
 
@@ -54,7 +54,7 @@ unfolding idle_field
 idle_short none = omega arith
 idle_short (some n) = uint_short n
 
-pub open_short : (S : Settings) → length S.container_id ≤ 255 → length (frame_bytes 0 (open_body S)) ≤ 512
+open_short : (S : Settings) → length S.container_id ≤ 255 → length (frame_bytes 0 (open_body S)) ≤ 512
 unfolding composite joined open_fields ushort bytes_of
 open_short S short =
     let fs : List (List ℕ) = trimmed (open_fields S) in
@@ -76,7 +76,7 @@ open_short S short =
       idle_short S.idle_time_out,
     )
 
-pub limited_yes : (limit : ℕ) (bs : List ℕ) → length bs ≤ limit → length bs ≤ 16384 → limited limit bs ≡ accept bs
+limited_yes : (limit : ℕ) (bs : List ℕ) → length bs ≤ limit → length bs ≤ 16384 → limited limit bs ≡ accept bs
 unfolding limited
 limited_yes limit bs h k = require_on 27 _ _ (both _ _ (le-leb (length bs) limit h) (le-leb (length bs) 16384 k))
 
@@ -87,7 +87,7 @@ failure_ok : error_ok failure ≡ true
 unfolding failure error_ok ascii
 failure_ok = refl
 
-pub close_length : length (frame_bytes 0 (close_body none)) ≡ 12
+close_length : length (frame_bytes 0 (close_body none)) ≡ 12
 unfolding composite trimmed joined composite_header list_header error_field starts_with frame_bytes frame_header bytes_of
 close_length = refl
 
@@ -119,27 +119,35 @@ module _ (role : Role) (S : Settings) where
   at x c = apply S (go x) c
 
   module _ (c : Connection) (x y : State) where
-    -- a call that comes to a move
-    moves : (call : Call) {o : Outcome} → o.effect ≡ go y → decide role S (at x c) call ≡ accept o → Led role S (at x c) (at y c)
-    moves call f e = by (at x c) call (ap (λ v. after S v (at x c)) e ∙ ap (λ z. apply S z (at x c)) f)
-
     send_header_lem : along send_header x ≡ accept y → Led role S (at x c) (at y c)
-    send_header_lem e = moves (send_header_to space) refl (header_sent_is role S (at x c) y space space_room e)
+    send_header_lem e =
+        by (at x c) (send_header_to space)
+        (ap (λ v. after S v (at x c)) (require_on 9 (room_for 0 space) _ space_room ∙ then_accept (along send_header x) _ y e))
 
     receive_header_lem : along receive_header x ≡ accept y → Led role S (at x c) (at y c)
-    receive_header_lem e = moves (receive_header_from amqp) refl (header_read role S (at x c) y amqp amqp_received e)
+    receive_header_lem e =
+        by (at x c) (receive_header_from amqp)
+        (ap (λ v. after S v (at x c)) (then_accept (received amqp) _ amqp100 amqp_received ∙ then_accept (along receive_header x) _ y e))
 
     receive_other : along receive_other_header x ≡ accept y → Led role S (at x c) (at y c)
-    receive_other e = moves (receive_header_from (0x41 ∷ 0x4D ∷ 0x51 ∷ 0x50 ∷ 3 ∷ 1 ∷ 0 ∷ 0 ∷ [])) refl (other_read role S (at x c) y _ (version100 3) other_received e)
+    receive_other e =
+        by (at x c) (receive_header_from (0x41 ∷ 0x4D ∷ 0x51 ∷ 0x50 ∷ 3 ∷ 1 ∷ 0 ∷ 0 ∷ []))
+        (ap (λ v. after S v (at x c)) (then_accept _ _ (other (version100 3)) other_received ∙ then_accept (along receive_other_header x) _ y e))
 
     pub send_open_lem : length S.container_id ≤ 255 → 512 ≤ c.writing_limit → along send_open x ≡ accept y → Led role S (at x c) (at y c)
     send_open_lem short low e =
         let l = open_short S short in
-        moves (send_open_to space) refl (open_sent role S (at x c) y space space_room (limited_yes c.writing_limit (frame_bytes 0 (open_body S)) (omega arith) (omega arith)) e)
+        by (at x c) (send_open_to space)
+        (ap (λ v. after S v (at x c))
+        (require_on 9 (room_for 0 space) _ space_room ∙ then_accept (along send_open x) _ y e
+        ∙ then_accept (limited c.writing_limit (frame_bytes 0 (open_body S))) _ _ (limited_yes c.writing_limit (frame_bytes 0 (open_body S)) (omega arith) (omega arith))))
 
     send_close_lem : (o : Option ErrorText) → close_ok o ≡ true → length (frame_bytes 0 (close_body o)) ≤ 512 → 512 ≤ c.writing_limit → closes o x ≡ accept y → Led role S (at x c) (at y c)
     send_close_lem o fine short low e =
-        moves (send_close_to o space) refl (close_sent role S (at x c) y o space space_room fine (limited_yes c.writing_limit (frame_bytes 0 (close_body o)) (omega arith) (omega arith)) e)
+        by (at x c) (send_close_to o space)
+        (ap (λ v. after S v (at x c))
+        (require_on 9 (room_for 0 space) _ space_room ∙ require_on 8 (close_ok o) _ fine ∙ then_accept (closes o x) _ y e
+        ∙ then_accept (limited c.writing_limit (frame_bytes 0 (close_body o))) _ _ (limited_yes c.writing_limit (frame_bytes 0 (close_body o)) (omega arith) (omega arith))))
 
     pub send_plain : 512 ≤ c.writing_limit → along send_close x ≡ accept y → Led role S (at x c) (at y c)
     send_plain = send_close_lem none refl (omega (arith, close_length))
@@ -149,9 +157,10 @@ module _ (role : Role) (S : Settings) where
 
     pub read_close_lem : 512 ≤ c.reading_limit → along read_close x ≡ accept y → Led role S (at x c) (at y c)
     read_close_lem low e =
-        moves (receive_frame (frame_bytes 0 aClose) 0) refl
-        (close_read_is role S (at x c) y (frame_bytes 0 aClose) 0 _ _
-        (read_whole 0 aClose (omega arith) (omega arith) c.reading_limit S.channel_max _ close_content (omega arith) (omega arith)) refl e)
+        by (at x c) (receive_frame (frame_bytes 0 aClose) 0)
+        (ap (λ v. after S v (at x c))
+        (then_accept _ (frame_read role S (at x c) 0) _ (read_whole 0 aClose (omega arith) (omega arith) c.reading_limit S.channel_max _ close_content (omega arith) (omega arith))
+        ∙ then_accept (along read_close x) _ y e))
 
   -- ---- without the peer's Open
 

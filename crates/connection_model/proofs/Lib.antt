@@ -13,6 +13,5 @@ pub mod ProbeFrames
 pub mod Probes
 pub mod Apart
 pub mod Theorem
-pub mod Moves
 pub mod Led
 pub mod Exact

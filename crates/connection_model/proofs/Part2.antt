@@ -1,8 +1,8 @@
--- The rows of Part 2's table of states that differ from ours are those that specs/Part2.antt has, and no others. None is about a header or a Close that is read before the peer's header.
+-- The rows of Part 2's table of states that differ from ours are those that specs/Part2.antt has, and no others.
 -- Assumes nothing.
 use mathlib.Core.Path.{◌≡◌, refl}
 use mathlib.Core.Bool.{Bool, true, ◌&&◌}
-use mathlib.Core.List.{List, [], ◌∷◌, ◌++◌}
+use mathlib.Core.List.{List, [], ◌∷◌}
 use Rattle.octets.specs.Verdict.{require, and_then}
 use Rattle.octets.specs.Octets.{big_endian_from, big_endian, bytes_of, starts_with}
 use Rattle.octets.specs.Output.{room_for}
@@ -15,8 +15,8 @@ use Rattle.frame_decoder.specs.Frame.{frame, body_in, content, read_frame, sessi
 use Rattle.serializer.specs.Written.{uint, ushort, text_header, text, list_header, joined, trimmed, composite_header, composite}
 use Rattle.frame_encoder.specs.Frames.{frame_header, frame_bytes, limited, idle_field, open_fields, error_ok, description_field, error_fields, error_field}
 use Rattle.session_frame.specs.Session.{shortest, written_as, written_fields, performative_written, session_bytes}
-use Rattle.connection_state.specs.States.{states, Move, ◌⇒◌}
-use Rattle.connection_model.specs.Part2.{HDR, CLOSE, Action, R, other_r, arrows, is_legal, room, in_states, differing, pipes, actions, differences}
+use Rattle.connection_state.specs.States.{Move, ◌⇒◌}
+use Rattle.connection_model.specs.Part2.{Action, arrows, is_legal, room, differing, actions, differences}
 
 -- the diagram draws only what the table has as legal
 abbrev each_legal : Action → List Move → Bool
@@ -33,8 +33,3 @@ drawn_legal_lem = refl
 pub part_2 : differing actions ≡ differences
 unfolding room ascii require and_then big_endian_from big_endian bytes_of starts_with room_for is_protocol_id protocol_id starts_with_all header has_id is_amqp100 protocol received header_bytes plus followed_by times codes kind_in kind_of bytes number_in boolean_end variable_end paired_in opening items compound_end body after_code level run value_end fields_in fields_of number_of sized list_at descriptor described split error_shape is_error has_type fits fit fields_by rows_for performative_by performative number_or remote_channel start_of condition_at condition frame body_in content read_frame session_performative session_frame uint ushort text_header text list_header joined trimmed composite_header composite frame_header frame_bytes limited idle_field open_fields error_ok description_field error_fields error_field shortest written_as written_fields performative_written session_bytes
 part_2 = refl
-
--- document 02, wish 1: a header is read as Part 2 has it, in every state; in OpenPipe and OpenClosePipe so are a header of another protocol and a Close
-pub pipes_part_2 : in_states (R HDR) states ++ (in_states other_r pipes ++ in_states (R CLOSE) pipes) ≡ []
-unfolding room ascii require and_then big_endian_from big_endian bytes_of starts_with room_for is_protocol_id protocol_id starts_with_all header has_id is_amqp100 protocol received header_bytes plus followed_by times codes kind_in kind_of bytes number_in boolean_end variable_end paired_in opening items compound_end body after_code level run value_end fields_in fields_of number_of sized list_at descriptor described split error_shape is_error has_type fits fit fields_by rows_for performative_by performative number_or remote_channel start_of condition_at condition frame body_in content read_frame session_performative session_frame uint ushort text_header text list_header joined trimmed composite_header composite frame_header frame_bytes limited idle_field open_fields error_ok description_field error_fields error_field shortest written_as written_fields performative_written session_bytes
-pipes_part_2 = refl

@@ -9,18 +9,17 @@ use lib.ListN.{replicate}
 use Rattle.octets.specs.Verdict.{Verdict, refuse, accept, require, and_then}
 use Rattle.octets.specs.Octets.{big_endian_from, big_endian, bytes_of, starts_with}
 use Rattle.octets.specs.Output.{room_for, laid}
-use Rattle.text.specs.Ascii.{ascii}
 use Rattle.protocol_header.specs.Header.{is_protocol_id, protocol_id, starts_with_all, header as header_of, has_id, is_amqp100, protocol, received, header_bytes, write_header}
 use Rattle.values.specs.Value.{plus, followed_by, times, codes, kind_in, kind_of, bytes as bytes_at, number_in, boolean_end, variable_end, paired_in, opening, items, compound_end, body, after_code, level, run as run_of, value_end}
 use Rattle.performatives.specs.Fields.{fields_in, fields_of}
 use Rattle.performatives.specs.Performative.{descriptor, performative_by, fields_by, number_of, sized, list_at, described, split, error_shape, is_error, has_type, fits, fit, rows_for, performative, number_or, remote_channel, start_of, condition_at, condition, values_in, values_of}
 use Rattle.frame_decoder.specs.Frame.{frame, body_in, content, read_frame, session_performative, session_frame}
 use Rattle.serializer.specs.Written.{uint, ushort, text_header, text, list_header, joined, trimmed, composite_header, composite}
-use Rattle.frame_encoder.specs.Frames.{Settings, frame_header, frame_bytes, limited, idle_field, open_fields, error_ok, description_field, error_fields, error_field}
+use Rattle.frame_encoder.specs.Frames.{Settings, frame_header, frame_bytes, limited, idle_field, open_fields, error_field}
 use Rattle.session_frame.specs.Session.{shortest, written_as, written_fields, performative_written, session_bytes}
 use Rattle.connection_state.specs.States.{State, Opened}
 use Rattle.channels.specs.Ties.{tie_of}
-use Rattle.connection_model.specs.Connection.{dialler, listener, fresh, Call, send_header_to, receive_header_from, send_open_to, receive_frame, send_close_to, send_session_frame, allocate, deallocate, tick, Answer, wrote, stop, header, other_protocol, nothing_to_do, opened, closed, forward, channel, freed, Seen, run, seen_in}
+use Rattle.connection_model.specs.Connection.{dialler, listener, fresh, Call, send_header_to, receive_header_from, send_open_to, receive_frame, send_close_to, send_session_frame, allocate, deallocate, tick, Answer, wrote, stop, header, nothing_to_do, opened, closed, forward, channel, freed, Seen, run, seen_in}
 
 abbrev answers_of : List Seen → List (Verdict Answer)
 answers_of [] = []
@@ -101,52 +100,6 @@ header_and_close :
     ∷ refuse 22 ∷ refuse 20 ∷ accept (closed 12 false) ∷ accept stop ∷ refuse 20 ∷ []
 unfolding malformed close attach_on5 settings amqp peer_open out require and_then big_endian_from big_endian bytes_of starts_with room_for is_protocol_id protocol_id starts_with_all header_of has_id is_amqp100 protocol received header_bytes plus followed_by times codes kind_in kind_of bytes_at number_in boolean_end variable_end paired_in opening items compound_end body after_code level run_of value_end fields_in fields_of number_of sized list_at described split error_shape is_error has_type fits fit rows_for performative number_or remote_channel start_of condition_at condition frame body_in content read_frame uint ushort text_header text list_header joined trimmed composite_header composite frame_header frame_bytes limited idle_field open_fields error_field descriptor performative_by fields_by
 header_and_close = refl
-
--- ---- header, Open and Close in one write
-
--- the header of another protocol
-another : List ℕ
-another = 0x41 ∷ 0x4D ∷ 0x51 ∷ 0x50 ∷ 0x03 ∷ 0x01 ∷ 0x00 ∷ 0x00 ∷ []
-
--- a hub that asks whether a pad is there: the pad's header leads to ClosePipe, its Open to CloseSent, its Close to End. A Close before the header is 20, and so is one between
--- the header and the Open; a header comes once
-pipelined :
-    answers_of
-    (seen_in dialler settings fresh
-    (send_header_to out ∷ send_open_to out ∷ receive_frame close 0 ∷ send_close_to none out ∷ receive_frame close 0 ∷ receive_header_from malformed ∷ receive_header_from amqp
-    ∷ receive_header_from amqp ∷ receive_frame close 0 ∷ receive_frame peer_open 0 ∷ receive_frame close 0 ∷ tick out ∷ []))
-    ≡ accept (wrote 8) ∷ accept (wrote 27) ∷ refuse 20 ∷ accept (wrote 12) ∷ refuse 20 ∷ refuse 2 ∷ accept (header 8)
-    ∷ refuse 20 ∷ refuse 20 ∷ accept (opened 22 0) ∷ accept (closed 12 false) ∷ accept stop ∷ []
-unfolding malformed close settings amqp peer_open out require and_then big_endian_from big_endian bytes_of starts_with room_for is_protocol_id protocol_id starts_with_all header_of has_id is_amqp100 protocol received header_bytes plus followed_by times codes kind_in kind_of bytes_at number_in boolean_end variable_end paired_in opening items compound_end body after_code level run_of value_end fields_in fields_of number_of sized list_at described split error_shape is_error has_type fits fit rows_for performative number_or remote_channel start_of condition_at condition frame body_in content read_frame uint ushort text_header text list_header joined trimmed composite_header composite frame_header frame_bytes limited idle_field open_fields error_field descriptor performative_by fields_by
-pipelined = refl
-
--- with header and Open alone, the pad's header leads to OpenSent, where its Close is read, and its Open leads to Opened
-opened_at_once :
-    (answers_of (seen_in dialler settings fresh (send_header_to out ∷ send_open_to out ∷ receive_header_from amqp ∷ receive_frame close 0 ∷ send_close_to none out ∷ tick out ∷ []))
-    ≡ accept (wrote 8) ∷ accept (wrote 27) ∷ accept (header 8) ∷ accept (closed 12 false) ∷ accept (wrote 12) ∷ accept stop ∷ [])
-    × (answers_of (seen_in dialler settings fresh (send_header_to out ∷ send_open_to out ∷ receive_header_from amqp ∷ receive_frame peer_open 0 ∷ allocate 1 ∷ []))
-    ≡ accept (wrote 8) ∷ accept (wrote 27) ∷ accept (header 8) ∷ accept (opened 22 0) ∷ accept (channel 0) ∷ [])
-unfolding close settings amqp peer_open out require and_then big_endian_from big_endian bytes_of starts_with room_for is_protocol_id protocol_id starts_with_all header_of has_id is_amqp100 protocol received header_bytes plus followed_by times codes kind_in kind_of bytes_at number_in boolean_end variable_end paired_in opening items compound_end body after_code level run_of value_end fields_in fields_of number_of sized list_at described split error_shape is_error has_type fits fit rows_for performative number_or remote_channel start_of condition_at condition frame body_in content read_frame uint ushort text_header text list_header joined trimmed composite_header composite frame_header frame_bytes limited idle_field open_fields error_field descriptor performative_by fields_by
-opened_at_once = (refl, refl)
-
--- another protocol's header ends both
-another_at_once :
-    (answers_of (seen_in dialler settings fresh (send_header_to out ∷ send_open_to out ∷ receive_header_from another ∷ tick out ∷ allocate 1 ∷ []))
-    ≡ accept (wrote 8) ∷ accept (wrote 27) ∷ accept (other_protocol 8) ∷ accept stop ∷ refuse 22 ∷ [])
-    × (answers_of (seen_in dialler settings fresh (send_header_to out ∷ send_open_to out ∷ send_close_to none out ∷ receive_header_from another ∷ tick out ∷ allocate 1 ∷ []))
-    ≡ accept (wrote 8) ∷ accept (wrote 27) ∷ accept (wrote 12) ∷ accept (other_protocol 8) ∷ accept stop ∷ refuse 22 ∷ [])
-unfolding another settings amqp peer_open out require and_then big_endian_from big_endian bytes_of starts_with room_for is_protocol_id protocol_id starts_with_all header_of has_id is_amqp100 protocol received header_bytes plus followed_by times codes kind_in kind_of bytes_at number_in boolean_end variable_end paired_in opening items compound_end body after_code level run_of value_end fields_in fields_of number_of sized list_at described split error_shape is_error has_type fits fit rows_for performative number_or remote_channel start_of condition_at condition frame body_in content read_frame uint ushort text_header text list_header joined trimmed composite_header composite frame_header frame_bytes limited idle_field open_fields error_field descriptor performative_by fields_by
-another_at_once = (refl, refl)
-
--- after a Close with an error no header is taken: the connection waits for a Close alone
-error_at_once :
-    answers_of
-    (seen_in dialler settings fresh
-    (send_header_to out ∷ send_open_to out ∷ send_close_to (some (record { condition = 0x78 ∷ []; description = none })) out ∷ receive_header_from amqp ∷ receive_header_from another
-    ∷ receive_frame peer_open 0 ∷ receive_frame close 0 ∷ tick out ∷ []))
-    ≡ accept (wrote 8) ∷ accept (wrote 27) ∷ accept (wrote 23) ∷ refuse 20 ∷ refuse 20 ∷ accept (nothing_to_do 22) ∷ accept (closed 12 false) ∷ accept stop ∷ []
-unfolding another close settings amqp peer_open out require and_then big_endian_from big_endian bytes_of starts_with room_for is_protocol_id protocol_id starts_with_all header_of has_id is_amqp100 protocol received header_bytes plus followed_by times codes kind_in kind_of bytes_at number_in boolean_end variable_end paired_in opening items compound_end body after_code level run_of value_end fields_in fields_of number_of sized list_at described split error_shape is_error has_type fits fit rows_for performative number_or remote_channel start_of condition_at condition frame body_in content read_frame uint ushort text_header text list_header joined trimmed composite_header composite frame_header frame_bytes limited idle_field open_fields error_field descriptor performative_by fields_by ascii error_ok description_field error_fields
-error_at_once = refl
 
 -- ---- a tie goes with the channel through which it was made
 

@@ -72,16 +72,16 @@ is_frame CLOSE = true
 is_frame SESSION = true
 is_frame EMPTY = true
 
-abbrev pub is_open_is : Control → Bool
-is_open_is HDR = false
-is_open_is OPEN = true
-is_open_is CLOSE = false
-is_open_is SESSION = false
-is_open_is EMPTY = false
+abbrev pub is_open : Control → Bool
+is_open HDR = false
+is_open OPEN = true
+is_open CLOSE = false
+is_open SESSION = false
+is_open EMPTY = false
 
 abbrev pub admits : Entry → Control → Bool
 admits only_hDR c = not (is_frame c)
-admits only_oPEN c = is_open_is c
+admits only_oPEN c = is_open c
 admits any_frame c = is_frame c
 admits no_frame c = false
 
@@ -197,24 +197,22 @@ abbrev pub differing : List Action → List Difference
 differing [] = []
 differing (a ∷ as') = in_states a states ++ differing as'
 
--- our Open is sent, and the peer's header has not come
-abbrev pub pipes : List State
-pipes = OpenPipe ∷ OpenClosePipe ∷ []
-
 abbrev pub actions : List Action
 actions = R HDR ∷ other_r ∷ R OPEN ∷ R CLOSE ∷ R SESSION ∷ R EMPTY ∷ S HDR ∷ S OPEN ∷ S CLOSE ∷ error_s ∷ S SESSION ∷ S EMPTY ∷ []
 
 -- all of them, each with what it leads to here and in Part 2
 abbrev pub differences : List Difference
 differences =
-    -- a header of another protocol that comes before ours is sent ends a connection, and none is sent back
-    (other_r from Start ∶ to End not to HeaderReceived)
+    -- no header is taken in OpenPipe and OpenClosePipe
+    (R HDR from OpenPipe ∶ illegal not to OpenSent) ∷ (R HDR from OpenClosePipe ∶ illegal not to ClosePipe)
+    -- a header of another protocol ends a connection where headers are taken, and none is sent back
+    ∷ (other_r from Start ∶ to End not to HeaderReceived) ∷ (other_r from OpenPipe ∶ illegal not to End) ∷ (other_r from OpenClosePipe ∶ illegal not to End)
     -- an Open before our header is legal by the table, but no state stands for it; a second Open is a frame, but no arrow is drawn for it
     ∷ (map (λ x. R OPEN from x ∶ illegal not unsaid) (HeaderReceived ∷ OpenReceived ∷ Opened ∷ CloseSent ∷ [])
-    -- a Close is read between the peer's header and its Open too
-    ++ ((R CLOSE from OpenSent ∶ to CloseReceived not illegal)
+    -- a Close is read before the peer's Open too
+    ++ (map (λ x. R CLOSE from x ∶ to CloseReceived not illegal) (OpenPipe ∷ OpenClosePipe ∷ OpenSent ∷ [])
     -- sessions' frames are read after both Opens, until our Close
-    ∷ (map (λ x. R SESSION from x ∶ illegal not to x) (OpenReceived ∷ CloseSent ∷ [])
+    ++ (map (λ x. R SESSION from x ∶ illegal not to x) (OpenReceived ∷ CloseSent ∷ [])
     -- an empty frame is "nothing to do" in every state
     ++ (map (λ x. R EMPTY from x ∶ to x not illegal)
     (Start ∷ HeaderReceived ∷ HeaderSent ∷ HeaderExchange ∷ OpenPipe ∷ OpenClosePipe ∷ OpenSent ∷ ClosePipe ∷ CloseReceived ∷ End ∷ [])

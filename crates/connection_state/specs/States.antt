@@ -1,5 +1,4 @@
--- The states of a connection and the moves between them: Part 2 section 2.4.6, as document 01 has them under "The connection's calls", and document 02 (wish 1) where a header or a Close
--- is read in OpenPipe and OpenClosePipe.
+-- The states of a connection and the moves between them: Part 2 section 2.4.6, as document 01 has them under "The connection's calls".
 -- Assumes nothing: these are definitions.
 use Rattle.std.specs.Prelude.{Bool, true, false, cond, List, [], ◌∷◌, ℕ, eqb}
 use Rattle.std.proofs.Math.Option.{Option, none, some}
@@ -59,10 +58,10 @@ abbrev pub send_header : List Move
 send_header = (Start ⇒ HeaderSent) ∷ (HeaderReceived ⇒ HeaderExchange) ∷ []
 
 abbrev pub receive_header : List Move
-receive_header = (Start ⇒ HeaderReceived) ∷ (HeaderSent ⇒ HeaderExchange) ∷ (OpenPipe ⇒ OpenSent) ∷ (OpenClosePipe ⇒ ClosePipe) ∷ []
+receive_header = (Start ⇒ HeaderReceived) ∷ (HeaderSent ⇒ HeaderExchange) ∷ []
 
 abbrev pub receive_other_header : List Move
-receive_other_header = (Start ⇒ End) ∷ (HeaderSent ⇒ End) ∷ (OpenPipe ⇒ End) ∷ (OpenClosePipe ⇒ End) ∷ []
+receive_other_header = (Start ⇒ End) ∷ (HeaderSent ⇒ End) ∷ []
 
 abbrev pub send_open : List Move
 send_open = (HeaderExchange ⇒ OpenSent) ∷ (OpenReceived ⇒ Opened) ∷ (HeaderSent ⇒ OpenPipe) ∷ []
@@ -77,7 +76,9 @@ abbrev pub send_close_with_error : List Move
 send_close_with_error = (Opened ⇒ Discarding) ∷ (OpenSent ⇒ Discarding) ∷ (OpenPipe ⇒ Discarding) ∷ (CloseReceived ⇒ End) ∷ []
 
 abbrev pub read_close : List Move
-read_close = (Opened ⇒ CloseReceived) ∷ (OpenReceived ⇒ CloseReceived) ∷ (OpenSent ⇒ CloseReceived) ∷ (CloseSent ⇒ End) ∷ (Discarding ⇒ End) ∷ []
+read_close =
+    (Opened ⇒ CloseReceived) ∷ (OpenPipe ⇒ CloseReceived) ∷ (OpenClosePipe ⇒ CloseReceived) ∷ (OpenReceived ⇒ CloseReceived)
+    ∷ (OpenSent ⇒ CloseReceived) ∷ (CloseSent ⇒ End) ∷ (Discarding ⇒ End) ∷ []
 
 -- sessions' frames are read, and sent, in these
 abbrev pub reading : List State

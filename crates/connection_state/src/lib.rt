@@ -56,8 +56,6 @@ impl ConnectionState {
         match self {
             ConnectionState::Start => Moved::To(ConnectionState::HeaderReceived),
             ConnectionState::HeaderSent => Moved::To(ConnectionState::HeaderExchange),
-            ConnectionState::OpenPipe => Moved::To(ConnectionState::OpenSent),
-            ConnectionState::OpenClosePipe => Moved::To(ConnectionState::ClosePipe),
             _ => Moved::Illegal,
         }
     }
@@ -69,8 +67,6 @@ impl ConnectionState {
         match self {
             ConnectionState::Start => Moved::To(ConnectionState::End),
             ConnectionState::HeaderSent => Moved::To(ConnectionState::End),
-            ConnectionState::OpenPipe => Moved::To(ConnectionState::End),
-            ConnectionState::OpenClosePipe => Moved::To(ConnectionState::End),
             _ => Moved::Illegal,
         }
     }
@@ -131,6 +127,8 @@ impl ConnectionState {
     {
         match self {
             ConnectionState::Opened => Moved::To(ConnectionState::CloseReceived),
+            ConnectionState::OpenPipe => Moved::To(ConnectionState::CloseReceived),
+            ConnectionState::OpenClosePipe => Moved::To(ConnectionState::CloseReceived),
             ConnectionState::OpenReceived => Moved::To(ConnectionState::CloseReceived),
             ConnectionState::OpenSent => Moved::To(ConnectionState::CloseReceived),
             ConnectionState::CloseSent => Moved::To(ConnectionState::End),

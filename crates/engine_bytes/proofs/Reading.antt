@@ -114,10 +114,10 @@ module _ (s : List ℕ) (long : 300 ≤ length s) where
             let w : length (id_at s) ≤ 255 = (settings_within _ _ _ e).id_short in
             absurd (omega (arith, length-take (at 42 2 s) (drop 44 s), length-drop 44 s))
 
-    pub open_read_is : (r : NewOpen) (id : List ℕ) (size highest millis : ℕ) (idle : IdleTimeOut) → id ≡ take (44 + n - 44) (drop 44 s)
+    pub open_read_lem : (r : NewOpen) (id : List ℕ) (size highest millis : ℕ) (idle : IdleTimeOut) → id ≡ take (44 + n - 44) (drop 44 s)
         → new_says id r ≡ checked (settings id size highest idle) → size ≡ at 8 4 s → highest ≡ at 6 2 s → idle_said idle ≡ held (eqb (get_or s 5 0) 1) millis → millis ≡ at 12 4 s
         → new_says (id_at s) r ≡ settings_at s
-    open_read_is r id size highest millis idle i p a b o m =
+    open_read_lem r id size highest millis idle i p a b o m =
         let c : idle_said idle ≡ held (eqb (get_or s 5 0) 1) (at 12 4 s) = o ∙ ap (held (eqb (get_or s 5 0) 1)) m in
         let k : 44 + n - 44 ≡ at 42 2 s = omega arith in
         let j : id ≡ id_at s = i ∙ ap (λ (m : ℕ). take m (drop 44 s)) k in

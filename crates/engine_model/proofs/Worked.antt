@@ -1,7 +1,7 @@
--- The engine's error path and the end of the input, state by state, as tables; errors and refusals; and a worked list of events. All computed from the definitions.
+-- The engine's error path, end of input and a Close that is read, state by state, as tables; a worked list of events; and events that lead to each phase in each state that goes with it. All computed from the definitions.
 -- Assumes nothing.
 use mathlib.Core.Path.{◌≡◌, refl}
-use mathlib.Core.Bool.{true, false}
+use mathlib.Core.Bool.{true, false, cond}
 use mathlib.Core.List.{List, [], ◌∷◌, ◌++◌}
 use mathlib.Core.Option.{Option, none, some}
 use Prim.Native.Nat.{ℕ}
@@ -19,30 +19,31 @@ use Rattle.frame_decoder.specs.Frame.{frame, body_in, content, read_frame, sessi
 use Rattle.serializer.specs.Written.{uint, ushort, text_header, text, list_header, joined, trimmed, composite_header, composite}
 use Rattle.frame_encoder.specs.Frames.{Settings, ErrorText, frame_header, frame_bytes, limited, idle_field, open_fields, error_ok, description_field, error_fields, error_field, close_body}
 use Rattle.session_frame.specs.Session.{text_of, shortest, written_as, written_fields, performative_written, session_bytes}
-use Rattle.connection_state.specs.States.{State, Start, HeaderReceived, HeaderSent, HeaderExchange, OpenPipe, OpenClosePipe, OpenReceived, OpenSent, ClosePipe, Opened, CloseReceived, CloseSent, Discarding, End}
+use Rattle.connection_state.specs.States.{State, Start, HeaderReceived, HeaderSent, HeaderExchange, OpenPipe, OpenClosePipe, OpenReceived, OpenSent, ClosePipe, Opened, CloseReceived, CloseSent, Discarding, End, is}
 use Rattle.connection_model.specs.Connection as M
 use Rattle.connection_model.specs.Connection.{Role, dialler, listener, Answer, wrote, header, opened, closed, forward, began}
 use Rattle.engine_model.specs.Texts.{illegal_state_condition, not_found_condition, not_implemented_condition, no_session, no_outgoing_channel, no_remote_session}
-use Rattle.engine_model.specs.Engine.{Outcome, fine, transport_error, illegal_state, not_found, not_implemented, Phase, running, awaiting, stopped, Engine, fresh, Event, send_header, receive_header, send_open, incoming, close_order, allocate, deallocate, outgoing, tick, end_of_input, not_delivered, Reply, Result, judge, Seen, seen_in}
+use Rattle.engine_model.specs.Engine.{Outcome, fine, transport_error, illegal_state, not_found, not_implemented, remote_closed, remote_closed_with_error, Phase, running, awaiting, stopped, Engine, fresh, Event, send_header, receive_header, send_open, incoming, close_order, allocate, deallocate, outgoing, tick, end_of_input, not_delivered, Reply, Result, judge, Seen, seen_in, run}
+use Rattle.engine_model.specs.Phases.{goes_with}
 
 -- ---- tables
 
 -- a state; the phase and the state where an event leaves it, and what it wrote
-pub data Row : Type 0 where
+data Row : Type 0 where
   ◌∶◌at◌writes◌ : State → Phase → State → List ℕ → Row
   ◌refuses◌ : State → ℕ → Row
 
 infix 5 ◌∶◌at◌writes◌ ◌refuses◌
-abbrev pub row_of : State → Verdict Result → Row
+abbrev row_of : State → Verdict Result → Row
 row_of x (refuse k) = x refuses k
 row_of x (accept r) = x ∶ r.lands.phase at r.lands.connection.state writes r.lands.bytes
 
-abbrev pub rows : (State → Verdict Result) → List State → List Row
+abbrev rows : (State → Verdict Result) → List State → List Row
 rows f [] = []
 rows f (x ∷ xs) = row_of x (f x) ∷ rows f xs
 
 -- by what the error path does in them
-abbrev pub states : List State
+abbrev states : List State
 states =
     Start ∷ HeaderReceived ∷ HeaderSent ∷ HeaderExchange ∷ Opened ∷ OpenSent ∷ OpenPipe ∷ OpenReceived ∷ OpenClosePipe ∷ CloseReceived ∷ ClosePipe ∷ CloseSent
     ∷ Discarding ∷ End ∷ []
@@ -53,11 +54,11 @@ settings = record { container_id = 0x70 ∷ 0x31 ∷ []; max_frame_size = 4096; 
 unfoldable pub out : List ℕ
 out = replicate 32768 0
 
-abbrev pub in_state : Phase → State → Engine
+abbrev in_state : Phase → State → Engine
 in_state p x = record { phase = p; connection = M.apply settings (M.go x) M.fresh }
 
 -- what an event comes to in each state
-abbrev pub table : Role → Phase → Event → List Row
+abbrev table : Role → Phase → Event → List Row
 table role p event = rows (λ x. judge role settings (in_state p x) event) states
 
 -- ---- the error path
@@ -70,7 +71,7 @@ error_close c d = frame_bytes 0 (close_body (some (record { condition = c; descr
 not_found_close : List ℕ
 not_found_close = error_close not_found_condition (some no_session)
 
-unfoldable pub illegal_close : List ℕ
+illegal_close : List ℕ
 illegal_close = error_close illegal_state_condition none
 
 error_path :
@@ -135,33 +136,114 @@ input_ends_awaiting : table dialler (awaiting not_found) (end_of_input out) ≡ 
 unfolding settings out require room_for
 input_ends_awaiting = refl
 
--- ---- frames
+-- ---- a Close is read
 
--- a Close
-unfoldable pub close : List ℕ
+close : List ℕ
 close = 0 ∷ 0 ∷ 0 ∷ 0x0C ∷ 2 ∷ 0 ∷ 0 ∷ 0 ∷ 0 ∷ 0x53 ∷ 0x18 ∷ 0x45 ∷ []
 
 -- with an error whose condition is x
-unfoldable pub close_with_error : List ℕ
+close_with_error : List ℕ
 close_with_error = 0 ∷ 0 ∷ 0 ∷ 0x17 ∷ 2 ∷ 0 ∷ 0 ∷ 0 ∷ 0 ∷ 0x53 ∷ 0x18 ∷ 0xC0 ∷ 10 ∷ 1 ∷ 0 ∷ 0x53 ∷ 0x1D ∷ 0xC0 ∷ 4 ∷ 1 ∷ 0xA3 ∷ 1 ∷ 0x78 ∷ []
 
 -- an End on channel 0, that waits to be sent
 unfoldable pub end_on0 : List ℕ
 end_on0 = 0 ∷ 0 ∷ 0 ∷ 0x0C ∷ 2 ∷ 0 ∷ 0 ∷ 0 ∷ 0 ∷ 0x53 ∷ 0x17 ∷ 0x45 ∷ []
 
+-- where it leaves CloseReceived behind, the waiting frame goes out, then a Close without error
+close_read_lem :
+    table listener running (incoming close 0 end_on0 out)
+    ≡ (Start ∶ stopped illegal_state at Start writes [])
+    ∷ (HeaderReceived ∶ stopped illegal_state at HeaderReceived writes [])
+    ∷ (HeaderSent ∶ stopped illegal_state at HeaderSent writes [])
+    ∷ (HeaderExchange ∶ stopped illegal_state at HeaderExchange writes [])
+    ∷ (Opened ∶ stopped remote_closed at End writes (end_on0 ++ close))
+    ∷ (OpenSent ∶ stopped remote_closed at End writes (end_on0 ++ close))
+    ∷ (OpenPipe ∶ stopped remote_closed at End writes (end_on0 ++ close))
+    ∷ (OpenReceived ∶ stopped remote_closed at End writes (end_on0 ++ close))
+    ∷ (OpenClosePipe ∶ stopped remote_closed at End writes (end_on0 ++ close))
+    ∷ (CloseReceived ∶ stopped illegal_state at End writes (end_on0 ++ close))
+    ∷ (ClosePipe ∶ awaiting illegal_state at ClosePipe writes [])
+    ∷ (CloseSent ∶ stopped fine at End writes [])
+    ∷ (Discarding ∶ stopped fine at End writes [])
+    ∷ (End ∶ stopped illegal_state at End writes [])
+    ∷ []
+unfolding settings out close end_on0 require and_then room_for big_endian_from big_endian bytes_of starts_with ascii utf8Characters in_range starts any utf8_within utf8 plus followed_by times codes kind_in kind_of bytes_at number_in boolean_end variable_end paired_in opening items compound_end body after_code level run_of value_end fields_in fields_of number_of sized list_at described split error_shape is_error has_type fits fit rows_for performative number_or remote_channel start_of condition_at condition descriptor performative_by fields_by frame body_in content read_frame session_performative session_frame frames_up_to session_frames uint ushort text_header text list_header joined trimmed composite_header composite frame_header frame_bytes limited error_ok description_field error_fields error_field text_of shortest written_as written_fields performative_written session_bytes
+close_read_lem = refl
+
+close_with_error_read :
+    table dialler running (incoming close_with_error 0 [] out)
+    ≡ (Start ∶ stopped illegal_state at Start writes [])
+    ∷ (HeaderReceived ∶ stopped illegal_state at HeaderReceived writes [])
+    ∷ (HeaderSent ∶ stopped illegal_state at HeaderSent writes [])
+    ∷ (HeaderExchange ∶ stopped illegal_state at HeaderExchange writes [])
+    ∷ (Opened ∶ stopped remote_closed_with_error at End writes close)
+    ∷ (OpenSent ∶ stopped remote_closed_with_error at End writes close)
+    ∷ (OpenPipe ∶ stopped remote_closed_with_error at End writes close)
+    ∷ (OpenReceived ∶ stopped remote_closed_with_error at End writes close)
+    ∷ (OpenClosePipe ∶ stopped remote_closed_with_error at End writes close)
+    ∷ (CloseReceived ∶ stopped illegal_state at End writes close)
+    ∷ (ClosePipe ∶ awaiting illegal_state at ClosePipe writes [])
+    ∷ (CloseSent ∶ stopped remote_closed_with_error at End writes [])
+    ∷ (Discarding ∶ stopped remote_closed_with_error at End writes [])
+    ∷ (End ∶ stopped illegal_state at End writes [])
+    ∷ []
+unfolding settings out close close_with_error require and_then room_for big_endian_from big_endian bytes_of starts_with ascii utf8Characters in_range starts any utf8_within utf8 plus followed_by times codes kind_in kind_of bytes_at number_in boolean_end variable_end paired_in opening items compound_end body after_code level run_of value_end fields_in fields_of number_of sized list_at described split error_shape is_error has_type fits fit rows_for performative number_or remote_channel start_of condition_at condition descriptor performative_by fields_by frame body_in content read_frame session_performative session_frame frames_up_to session_frames uint ushort text_header text list_header joined trimmed composite_header composite frame_header frame_bytes limited error_ok description_field error_fields error_field text_of shortest written_as written_fields performative_written session_bytes
+close_with_error_read = refl
+
+-- while awaited: it is the connection's read of a Close, and writes nothing. ClosePipe, CloseSent and Discarding are the states in which a Close is awaited
+close_read_awaiting :
+    table listener (awaiting not_found) (incoming close 0 end_on0 out)
+    ≡ (Start ∶ stopped illegal_state at Start writes [])
+    ∷ (HeaderReceived ∶ stopped illegal_state at HeaderReceived writes [])
+    ∷ (HeaderSent ∶ stopped illegal_state at HeaderSent writes [])
+    ∷ (HeaderExchange ∶ stopped illegal_state at HeaderExchange writes [])
+    ∷ (Opened ∶ stopped remote_closed at CloseReceived writes [])
+    ∷ (OpenSent ∶ stopped remote_closed at CloseReceived writes [])
+    ∷ (OpenPipe ∶ stopped remote_closed at CloseReceived writes [])
+    ∷ (OpenReceived ∶ stopped remote_closed at CloseReceived writes [])
+    ∷ (OpenClosePipe ∶ stopped remote_closed at CloseReceived writes [])
+    ∷ (CloseReceived ∶ stopped illegal_state at CloseReceived writes [])
+    ∷ (ClosePipe ∶ stopped illegal_state at ClosePipe writes [])
+    ∷ (CloseSent ∶ stopped not_found at End writes [])
+    ∷ (Discarding ∶ stopped not_found at End writes [])
+    ∷ (End ∶ stopped illegal_state at End writes [])
+    ∷ []
+unfolding settings out close end_on0 require and_then room_for big_endian_from big_endian bytes_of starts_with ascii utf8Characters in_range starts any utf8_within utf8 plus followed_by times codes kind_in kind_of bytes_at number_in boolean_end variable_end paired_in opening items compound_end body after_code level run_of value_end fields_in fields_of number_of sized list_at described split error_shape is_error has_type fits fit rows_for performative number_or remote_channel start_of condition_at condition descriptor performative_by fields_by frame body_in content read_frame session_performative session_frame frames_up_to session_frames uint ushort text_header text list_header joined trimmed composite_header composite frame_header frame_bytes limited error_ok description_field error_fields error_field text_of shortest written_as written_fields performative_written session_bytes
+close_read_awaiting = refl
+
+-- a Close with an error, and another frame: ignored in Discarding, elsewhere judged as ever
+abbrev awaited : Event → List Row
+awaited event = rows (λ x. judge listener settings (in_state (awaiting not_found) x) event) (ClosePipe ∷ CloseSent ∷ Discarding ∷ [])
+
+close_with_error_awaited :
+    awaited (incoming close_with_error 0 [] out)
+    ≡ (ClosePipe ∶ stopped illegal_state at ClosePipe writes [])
+    ∷ (CloseSent ∶ stopped remote_closed_with_error at End writes [])
+    ∷ (Discarding ∶ stopped remote_closed_with_error at End writes [])
+    ∷ []
+unfolding settings out close_with_error require and_then room_for big_endian_from big_endian bytes_of starts_with ascii utf8Characters in_range starts any utf8_within utf8 plus followed_by times codes kind_in kind_of bytes_at number_in boolean_end variable_end paired_in opening items compound_end body after_code level run_of value_end fields_in fields_of number_of sized list_at described split error_shape is_error has_type fits fit rows_for performative number_or remote_channel start_of condition_at condition descriptor performative_by fields_by frame body_in content read_frame session_performative session_frame frames_up_to session_frames uint ushort text_header text list_header joined trimmed composite_header composite frame_header frame_bytes limited error_ok description_field error_fields error_field text_of shortest written_as written_fields performative_written session_bytes
+close_with_error_awaited = refl
+
+other_frame_awaited :
+    awaited (incoming end_on0 0 [] out)
+    ≡ (ClosePipe ∶ stopped illegal_state at ClosePipe writes [])
+    ∷ (CloseSent ∶ stopped illegal_state at CloseSent writes [])
+    ∷ (Discarding ∶ awaiting not_found at Discarding writes [])
+    ∷ []
+unfolding settings out end_on0 require and_then room_for big_endian_from big_endian bytes_of starts_with ascii utf8Characters in_range starts any utf8_within utf8 plus followed_by times codes kind_in kind_of bytes_at number_in boolean_end variable_end paired_in opening items compound_end body after_code level run_of value_end fields_in fields_of number_of sized list_at described split error_shape is_error has_type fits fit rows_for performative number_or remote_channel start_of condition_at condition descriptor performative_by fields_by frame body_in content read_frame session_performative session_frame frames_up_to session_frames uint ushort text_header text list_header joined trimmed composite_header composite frame_header frame_bytes limited error_ok description_field error_fields error_field text_of shortest written_as written_fields performative_written session_bytes
+other_frame_awaited = refl
+
+-- ---- frames
+
 unfoldable pub amqp : List ℕ
 amqp = 0x41 ∷ 0x4D ∷ 0x51 ∷ 0x50 ∷ 0x00 ∷ 0x01 ∷ 0x00 ∷ 0x00 ∷ []
-
--- the header of another protocol
-unfoldable pub tls : List ℕ
-tls = 0x41 ∷ 0x4D ∷ 0x51 ∷ 0x50 ∷ 0x02 ∷ 0x01 ∷ 0x00 ∷ 0x00 ∷ []
 
 -- container-id h, channel-max 3
 unfoldable pub peer_open : List ℕ
 peer_open = 0 ∷ 0 ∷ 0 ∷ 0x16 ∷ 2 ∷ 0 ∷ 0 ∷ 0 ∷ 0 ∷ 0x53 ∷ 0x10 ∷ 0xC0 ∷ 9 ∷ 4 ∷ 0xA1 ∷ 1 ∷ 0x68 ∷ 0x40 ∷ 0x40 ∷ 0x60 ∷ 0 ∷ 3 ∷ []
 
 -- ours: container-id p1, max-frame-size 4096, channel-max 7
-unfoldable pub own_open : List ℕ
+own_open : List ℕ
 own_open =
     0 ∷ 0 ∷ 0 ∷ 0x1B ∷ 2 ∷ 0 ∷ 0 ∷ 0 ∷ 0 ∷ 0x53 ∷ 0x10 ∷ 0xC0 ∷ 0x0E ∷ 4 ∷ 0xA1 ∷ 2 ∷ 0x70 ∷ 0x31 ∷ 0x40 ∷ 0x70 ∷ 0 ∷ 0 ∷ 0x10 ∷ 0 ∷ 0x60 ∷ 0 ∷ 7 ∷ []
 
@@ -187,7 +269,7 @@ abbrev in_opened : Role → Event → Row
 in_opened role event = row_of Opened (judge role settings (in_state running Opened) event)
 
 -- a frame whose length is 7
-unfoldable pub short : List ℕ
+short : List ℕ
 short = 0 ∷ 0 ∷ 0 ∷ 7 ∷ 2 ∷ 0 ∷ 0 ∷ []
 
 -- one over the reading limit
@@ -207,7 +289,7 @@ malformed : List ℕ
 malformed = 0 ∷ 0 ∷ 0 ∷ 9 ∷ 2 ∷ 0 ∷ 0 ∷ 0 ∷ 0xFF ∷ []
 
 -- a Transfer of 515 bytes, with a writing limit of 512
-unfoldable pub oversized : List ℕ
+oversized : List ℕ
 oversized = (0 ∷ 0 ∷ 2 ∷ 3 ∷ 2 ∷ 0 ∷ 0 ∷ 0 ∷ 0 ∷ 0x53 ∷ 0x14 ∷ 0xC0 ∷ 2 ∷ 1 ∷ 0x43 ∷ []) ++ replicate 500 0
 
 -- 3, 4, 5, 7, 6, 27; 20; 24; 25; and what was not delivered
@@ -289,7 +371,7 @@ abbrev written_in : Verdict Reply → List ℕ → List ℕ
 written_in (refuse k) o = []
 written_in (accept r) o = take r.written o
 
-abbrev pub outputs_of : List Seen → List (List ℕ)
+abbrev outputs_of : List Seen → List (List ℕ)
 outputs_of [] = []
 outputs_of (s ∷ ss) = written_in s.reply s.output ∷ outputs_of ss
 
@@ -297,7 +379,7 @@ outputs_of (s ∷ ss) = written_in s.reply s.output ∷ outputs_of ss
 abbrev pub goes_on : ℕ → ℕ → Answer → Verdict Reply
 goes_on c w a = accept (record { ended = none; consumed = c; written = w; inner = some (accept a) })
 
-abbrev pub ends : Outcome → ℕ → ℕ → Answer → Verdict Reply
+abbrev ends : Outcome → ℕ → ℕ → Answer → Verdict Reply
 ends o c w a = accept (record { ended = some o; consumed = c; written = w; inner = some (accept a) })
 
 life_replies :
@@ -312,3 +394,77 @@ life_outputs :
     ≡ [] ∷ amqp ∷ [] ∷ own_open ∷ [] ∷ answer_written ∷ [] ∷ (end_on0 ++ close) ∷ [] ∷ [] ∷ [] ∷ [] ∷ []
 unfolding settings out life amqp peer_open own_open begin answer answer_written transfer end_on0 close require and_then room_for big_endian_from big_endian bytes_of starts_with ascii utf8Characters in_range starts any utf8_within utf8 plus followed_by times codes kind_in kind_of bytes_at number_in boolean_end variable_end paired_in opening items compound_end body after_code level run_of value_end fields_in fields_of number_of sized list_at described split error_shape is_error has_type fits fit rows_for performative number_or remote_channel start_of condition_at condition descriptor performative_by fields_by frame body_in content read_frame session_performative session_frame frames_up_to session_frames uint ushort text_header text list_header joined trimmed composite_header composite frame_header frame_bytes limited error_ok description_field error_fields error_field text_of shortest written_as written_fields performative_written session_bytes is_protocol_id protocol_id starts_with_all header_of has_id is_amqp100 protocol received header_bytes idle_field open_fields laid
 life_outputs = refl
+
+-- ---- each phase in each state that goes with it
+
+-- the header of another protocol
+tls : List ℕ
+tls = 0x41 ∷ 0x4D ∷ 0x51 ∷ 0x50 ∷ 0x02 ∷ 0x01 ∷ 0x00 ∷ 0x00 ∷ []
+
+to_opened : List Event
+to_opened = send_header out ∷ receive_header amqp ∷ send_open out ∷ incoming peer_open 0 [] out ∷ []
+
+-- events that lead a running engine to a state; to CloseReceived none do
+abbrev lead_to : State → List Event
+lead_to Start = []
+lead_to HeaderReceived = receive_header amqp ∷ []
+lead_to HeaderSent = send_header out ∷ []
+lead_to HeaderExchange = send_header out ∷ receive_header amqp ∷ []
+lead_to OpenPipe = send_header out ∷ send_open out ∷ []
+lead_to OpenClosePipe = send_header out ∷ send_open out ∷ close_order none [] out ∷ []
+lead_to OpenReceived = send_header out ∷ receive_header amqp ∷ incoming peer_open 0 [] out ∷ []
+lead_to OpenSent = send_header out ∷ receive_header amqp ∷ send_open out ∷ []
+lead_to ClosePipe = send_header out ∷ receive_header amqp ∷ send_open out ∷ close_order none [] out ∷ []
+lead_to Opened = to_opened
+lead_to CloseReceived = []
+lead_to CloseSent = to_opened ++ (close_order none [] out ∷ [])
+lead_to Discarding = to_opened ++ (close_order (some (record { condition = []; description = none })) [] out ∷ [])
+lead_to End = receive_header tls ∷ []
+
+-- an event with an error that a Close tells of: an End that is sent where none may be, or what was not delivered
+abbrev erring : Outcome → Event
+erring fine = outgoing end_on0 out
+erring transport_error = outgoing end_on0 out
+erring illegal_state = outgoing end_on0 out
+erring not_found = not_delivered false out
+erring not_implemented = not_delivered true out
+erring remote_closed = outgoing end_on0 out
+erring remote_closed_with_error = outgoing end_on0 out
+
+-- and on to a stop in a state: the input ends; a length of 7, or a waiting frame over the writing limit; the peer's Close, also after an error
+abbrev stop_by : Outcome → State → List Event
+stop_by fine x = lead_to x ++ (end_of_input out ∷ [])
+stop_by transport_error x = cond (is CloseReceived x) (lead_to OpenSent ++ (incoming close 0 oversized out ∷ [])) (lead_to x ++ (incoming short 0 [] out ∷ []))
+stop_by illegal_state x = lead_to x ++ (erring illegal_state ∷ incoming end_on0 0 [] out ∷ [])
+stop_by not_found x = to_opened ++ (erring not_found ∷ incoming close 0 [] out ∷ [])
+stop_by not_implemented x = to_opened ++ (erring not_implemented ∷ incoming close 0 [] out ∷ [])
+stop_by remote_closed x = to_opened ++ (incoming close 0 [] out ∷ [])
+stop_by remote_closed_with_error x = to_opened ++ (incoming close_with_error 0 [] out ∷ [])
+
+abbrev lead_on : Phase → State → List Event
+lead_on running x = lead_to x
+lead_on (awaiting o) x = lead_to x ++ (erring o ∷ [])
+lead_on (stopped o) x = stop_by o x
+
+abbrev phases : List Phase
+phases = running ∷ in_each (fine ∷ transport_error ∷ illegal_state ∷ not_found ∷ not_implemented ∷ remote_closed ∷ remote_closed_with_error ∷ [])
+  where
+    in_each : List Outcome → List Phase
+    in_each [] = []
+    in_each (o ∷ os) = awaiting o ∷ stopped o ∷ in_each os
+
+abbrev found : Engine → Phase × State
+found e = (e.phase, e.connection.state)
+
+-- f of each phase with each state that goes with it
+abbrev each_pair : (Phase → State → Phase × State) → List Phase → List (Phase × State)
+each_pair f [] = []
+each_pair f (p ∷ ps) = along states (each_pair f ps)
+  where
+    along : List State → List (Phase × State) → List (Phase × State)
+    along [] rest = rest
+    along (x ∷ xs) rest = cond (goes_with p x) (f p x ∷ along xs rest) (along xs rest)
+
+each_met : each_pair (λ p x. found (run listener settings fresh (lead_on p x))) phases ≡ each_pair (λ p x. (p, x)) phases
+unfolding settings out to_opened amqp tls peer_open end_on0 close close_with_error short oversized require and_then room_for big_endian_from big_endian bytes_of starts_with ascii utf8Characters in_range starts any utf8_within utf8 plus followed_by times codes kind_in kind_of bytes_at number_in boolean_end variable_end paired_in opening items compound_end body after_code level run_of value_end fields_in fields_of number_of sized list_at described split error_shape is_error has_type fits fit rows_for performative number_or remote_channel start_of condition_at condition descriptor performative_by fields_by frame body_in content read_frame session_performative session_frame frames_up_to session_frames uint ushort text_header text list_header joined trimmed composite_header composite frame_header frame_bytes limited error_ok description_field error_fields error_field text_of shortest written_as written_fields performative_written session_bytes is_protocol_id protocol_id starts_with_all header_of has_id is_amqp100 protocol received header_bytes idle_field open_fields laid
+each_met = refl

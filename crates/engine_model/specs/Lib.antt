@@ -2,4 +2,3 @@ pub mod Texts
 pub mod Engine
 pub mod Phases
 pub mod Callers
-pub mod Dialling

@@ -1,4 +1,4 @@
--- Which phases go with which states of the connection: an engine that events led to is in no others (proofs/Phases.antt), and each of these is met (proofs/Reached.antt).
+-- Which phases go with which states of the connection: an engine that events led to is in no others (proofs/Phases.antt), and each of these is met (proofs/Worked.antt).
 -- Assumes nothing: these are definitions.
 use Rattle.std.specs.Prelude.{Bool, true, false, not, ◌&&◌, List, [], ◌∷◌}
 use Rattle.connection_state.specs.States.{State, Start, HeaderReceived, HeaderSent, HeaderExchange, OpenClosePipe, OpenReceived, ClosePipe, CloseReceived, CloseSent, Discarding, End, states, is, is_one_of}

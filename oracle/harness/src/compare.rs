@@ -1,4 +1,4 @@
-//! Both sides, one event at a time. Where documents 01 and 02 have them differ, a rule says what each of them must do; whatever differs else is a finding.
+//! Both sides, one event at a time. Where document 01 has them differ, a rule says what each of them must do; whatever differs else is a finding.
 //!
 //! Whether a rule is due is told from the event and from what was held before it, and not from what the port answers: a port that does as the Rust does where it is
 //! to be built otherwise is a finding too. What a rule does not name is compared as always.
@@ -13,7 +13,6 @@ use crate::events::*;
 use crate::ties::Ties;
 use fe2o3_amqp::auth::{Account, Answer, Inner, Mode, Oracle, Outcome, Phase, Refusal, Role, Settings};
 use fe2o3_amqp_types::performatives::Performative;
-use fe2o3_amqp_types::states::ConnectionState;
 
 /// A known difference.
 #[derive(Debug, Clone, Copy, PartialEq, Eq, PartialOrd, Ord)]
@@ -35,12 +34,10 @@ pub enum Rule {
     BytesToSend,
     PhaseRefusal,
     HeaderFirst,
-    PipedHeader,
-    PipedClose,
 }
 
 /// Each rule with its name and what it says.
-pub const RULES: [(Rule, &str, &str); 19] = [
+pub const RULES: [(Rule, &str, &str); 17] = [
     (Rule::ShortLength, "short-length", "a frame's length is 4 to 7: the Rust waits or panics, here 3"),
     (Rule::VacantFree, "vacant-free", "a channel is freed that is not taken: the Rust panics, here 26"),
     (Rule::FreedWhileTied, "freed-while-tied", "a tied channel is freed: the Rust keeps its ties and hands late frames on, here 24"),
@@ -58,8 +55,6 @@ pub const RULES: [(Rule, &str, &str); 19] = [
     (Rule::BytesToSend, "bytes-to-send", "bytes that are no session frame: the Rust has values, here refused by number"),
     (Rule::PhaseRefusal, "phase-refusal", "an event while the Close is awaited, or after the end: none there, here 20"),
     (Rule::HeaderFirst, "header-first", "a header's bytes are judged before the state here, after it in the Rust"),
-    (Rule::PipedHeader, "piped-header", "a header in OpenPipe or OpenClosePipe: the Rust refuses it, here it is read"),
-    (Rule::PipedClose, "piped-close", "a Close in OpenPipe or OpenClosePipe: the Rust takes it, here 20"),
 ];
 
 impl fmt::Display for Rule {
@@ -76,8 +71,6 @@ pub struct Step {
     pub ends: bool,
     /// What the port must hold where the two sides went apart.
     held: Option<Account>,
-    /// How the Rust is brought to where the port must be.
-    back: Option<Back>,
 }
 
 impl Step {
@@ -85,22 +78,13 @@ impl Step {
         Step { rules: vec![rule], ..Step::default() }
     }
 
-    /// The list goes on when the Rust was brought back.
-    fn brings_back(rule: Rule, back: Back) -> Self {
-        Step { rules: vec![rule], back: Some(back), ..Step::default() }
-    }
-
     fn ends(rule: Rule, held: Account) -> Self {
-        Step { rules: vec![rule], ends: true, held: Some(held), back: None }
+        Step { rules: vec![rule], ends: true, held: Some(held) }
     }
 
-    /// The error that the port alone came to: a frame for a tie that the Rust alone has, or a Close before the header.
-    fn failure(&self) -> Option<Outcome> {
-        match self.rules[..] {
-            [Rule::FreedWhileTied] if self.ends => Some(Outcome::NotFound),
-            [Rule::PipedClose] => Some(Outcome::IllegalState),
-            _ => None,
-        }
+    /// A frame came for a tie that the Rust alone has.
+    fn is_late(&self) -> bool {
+        self.ends && self.rules.contains(&Rule::FreedWhileTied)
     }
 }
 
@@ -136,8 +120,6 @@ enum Back {
         remote: u32,
         local: u32,
     },
-    /// The state after a header that it does not take.
-    State(ConnectionState),
 }
 
 impl Back {
@@ -145,7 +127,6 @@ impl Back {
         match self {
             Back::Free => drop(rust.event(Event::Deallocate(0).rust())),
             Back::Limits { remote, local } => rust.adopt_limits(remote, local),
-            Back::State(state) => rust.adopt_state(state),
         }
     }
 }
@@ -211,7 +192,7 @@ fn phase_number(phase: Phase) -> u8 {
 
 fn open_in(event: &Event) -> Option<(u32, Option<u32>)> {
     let Event::Incoming { frame, .. } = event else { return None };
-    match performative(frame.get(8..size(frame)?)?)?.0 {
+    match performative(frame.get(8..)?)?.0 {
         Performative::Open(open) => Some((open.max_frame_size.0, open.idle_time_out)),
         _ => None,
     }
@@ -220,7 +201,7 @@ fn open_in(event: &Event) -> Option<(u32, Option<u32>)> {
 /// Whether a Close that came has an error.
 fn close_in(event: &Event) -> Option<bool> {
     let Event::Incoming { frame, .. } = event else { return None };
-    match performative(frame.get(8..size(frame)?)?)?.0 {
+    match performative(frame.get(8..)?)?.0 {
         Performative::Close(close) => Some(close.error.is_some()),
         _ => None,
     }
@@ -355,21 +336,23 @@ impl<P: Port> Pair<P> {
     /// Brings the Rust to where the port is, and notes what the Rust does not tell.
     fn follow(&mut self, both: &Both, step: &mut Step) -> Result<Option<Back>, String> {
         if both.before.phase == Phase::Running {
-            self.kept = step.failure().or_else(|| both.failure()).map_or(0, outcome_number);
+            let failure = if step.is_late() { Some(Outcome::NotFound) } else { both.failure() };
+            self.kept = failure.map_or(0, outcome_number);
         }
         let back = match open_in(both.event) {
-            Some((remote, _)) if both.reply.kind == 7 => {
-                self.opened(both, step, remote)?;
-                Some(Back::Limits { remote: remote.min(16384), local: self.settings.max_frame_size })
-            }
-            _ => step.back,
+            Some((remote, _)) if both.reply.kind == 7 => Back::Limits { remote: remote.min(16384), local: self.settings.max_frame_size },
+            _ if step.rules.contains(&Rule::EarlyAllocate) => Back::Free,
+            _ => return Ok(None),
         };
-        back.iter().for_each(|back| back.bring(&mut self.rust));
+        if let (Back::Limits { .. }, Some((remote, _))) = (back, open_in(both.event)) {
+            self.opened(both, step, remote)?;
+        }
+        back.bring(&mut self.rust);
         if step.rules.contains(&Rule::ZeroIdle) {
             // The Open was taken before the panic, and the port's phase stays; an engine that awaited the Close does not any more.
             step.held = Some(Account { phase: both.before.phase, ..self.rust.account() });
         }
-        Ok(back)
+        Ok(Some(back))
     }
 
     /// Notes which ties are made, ended and dropped, by what the Rust answers. Where the sides went apart, only frames that went out before that have made any.
@@ -608,29 +591,18 @@ fn header_read(both: &Both, bytes: &[u8]) -> Result<Step, String> {
         Some(b"AMQP\x00" | b"AMQP\x02" | b"AMQP\x03") => None,
         _ => Some((2, Refusal::HeaderMalformed)),
     };
-    match (both.before.state, wrong) {
-        (0 | 2, None) => told(both),
-        (0 | 2, Some((number, refusal))) => {
+    match ([0, 2].contains(&both.before.state), wrong) {
+        (true, None) => told(both),
+        (true, Some((number, refusal))) => {
             both.rust_says(Inner::Refused(refusal))?;
             both.port_refuses(number).map(|()| Step::default())
         }
-        (4, None) => piped_header(both, bytes, ConnectionState::OpenSent),
-        (5, None) => piped_header(both, bytes, ConnectionState::ClosePipe),
-        (_, wrong) => {
+        (false, wrong) => {
             both.rust_says(Inner::Refused(Refusal::IllegalState))?;
             both.port_refuses(wrong.as_ref().map_or(20, |(number, _)| *number))?;
             Ok(wrong.map_or_else(Step::default, |_| Step::goes_on(Rule::HeaderFirst)))
         }
     }
-}
-
-/// A well-formed header in OpenPipe or OpenClosePipe. The Rust takes none there; the port goes on to this state, or to End if the header is of another protocol.
-fn piped_header(both: &Both, bytes: &[u8], next: ConnectionState) -> Result<Step, String> {
-    both.rust_says(Inner::Refused(Refusal::IllegalState))?;
-    let (kind, state) = if bytes[4..8] == [0, 1, 0, 0] { (4, next) } else { (5, ConnectionState::End) };
-    let reply = Reply { kind, consumed: 8, ..Reply::default() };
-    hold(both.reply == reply, "the port must read a header here, as before its Open")?;
-    Ok(Step::brings_back(Rule::PipedHeader, Back::State(state)))
 }
 
 fn open_refused(both: &Both) -> Result<Step, String> {
@@ -655,7 +627,7 @@ fn allocated(both: &Both) -> Result<Step, String> {
     }
     if !agreed {
         both.rust_says(Inner::Channel(0))?;
-        return both.port_refuses(21).map(|()| Step::brings_back(Rule::EarlyAllocate, Back::Free));
+        return both.port_refuses(21).map(|()| Step::goes_on(Rule::EarlyAllocate));
     }
     if both.answer.inner == Inner::Refused(Refusal::NoChannelLeft) {
         both.rust_says(Inner::Refused(Refusal::NoChannelLeft))?;
@@ -725,7 +697,7 @@ fn came(both: &Both, frame: &[u8], limits: Option<(usize, usize)>) -> Result<Ste
         // Over the limit that the Rust has kept.
         both.rust_refuses(transport, Some(Outcome::Transport), 0)?;
         hold((both.reply.kind, both.reply.detail) != (1, 4), "the port must read up to its new limit")?;
-        return Ok(Step { rules: vec![Rule::LimitsOnOpen], ends: true, ..Step::default() });
+        return Ok(Step { rules: vec![Rule::LimitsOnOpen], ends: true, held: None });
     }
     match (frame_refusal(frame, limit, both.settings.channel_max), lent_refusal(both)) {
         (Some(1), Some((_, Rule::BytesToSend))) => lent_refused(both, 1, Rule::BytesToSend),
@@ -739,9 +711,8 @@ fn came(both: &Both, frame: &[u8], limits: Option<(usize, usize)>) -> Result<Ste
             both.rust_panics("period", length)?;
             let reply = Reply { kind: 7, consumed: length, ..Reply::default() };
             hold(both.reply == reply, "the port must take the Open, without an idle-time-out")?;
-            Ok(Step { rules: vec![Rule::ZeroIdle], ends: both.before.phase == Phase::Awaiting, ..Step::default() })
+            Ok(Step { rules: vec![Rule::ZeroIdle], ends: both.before.phase == Phase::Awaiting, held: None })
         }
-        (None, None) if [4, 5].contains(&both.before.state) && close_in(both.event).is_some() => piped_close(both, length),
         (None, None) if both.before.state == 9 && session_code(frame).is_some_and(|code| code != 17) => match both.late {
             Some(handle) => late(both, frame, handle),
             None => told(both),
@@ -758,51 +729,6 @@ fn late(both: &Both, frame: &[u8], handle: u32) -> Result<Step, String> {
     let reply = Reply { kind: 1, detail: 24, consumed: length, written, ..Reply::default() };
     hold(both.reply == reply, "the port must find nobody for a frame of a freed channel's tie")?;
     Ok(Step::ends(Rule::FreedWhileTied, Account { phase: Phase::Awaiting, state: 12, ..both.before.clone() }))
-}
-
-/// A Close in OpenPipe or OpenClosePipe, where no header has come. The Rust takes it; the port refuses it, and sends nothing of what waits. In OpenPipe it tells the peer by a Close, and
-/// awaits the peer's; in OpenClosePipe it has sent its Close, and stops.
-fn piped_close(both: &Both, length: usize) -> Result<Step, String> {
-    hold(is_close_taken(both) && both.answer.consumed == length, "the Rust must take this Close")?;
-    let refused = Reply { kind: 1, detail: 20, consumed: length, ..Reply::default() };
-    let (reply, held) = match both.before.state {
-        4 => {
-            let written = close(Some(&error("amqp:illegal-state", None)));
-            (Reply { written, ..refused }, Account { phase: Phase::Awaiting, state: 12, ..both.before.clone() })
-        }
-        _ => (Reply { stopped: true, outcome: 2, ..refused }, both.stopped()),
-    };
-    hold(both.reply == reply, "the port must refuse a Close before the header")?;
-    Ok(Step::ends(Rule::PipedClose, held))
-}
-
-/// Whether the Rust takes a Close before the header, and answers it. Where a frame that waits is over the limit, it may panic.
-fn is_close_taken(both: &Both) -> bool {
-    let (answer, with_error) = (&both.answer, close_in(both.event) == Some(true));
-    let taken = answer.inner == Inner::Closed { error: with_error };
-    let panicked = matches!(answer.inner, Inner::Refused(Refusal::Panicked(_)));
-    match oversized(both) {
-        Some(over) => (taken || panicked) && is_in_pieces(both, &over),
-        None => {
-            let (written, outcome) = close_answered(both, with_error);
-            taken && answer.written == written && answer.stopped == Some(outcome)
-        }
-    }
-}
-
-/// What the Rust writes then, and its outcome: what waits, and a Close. No channel is taken before the peer's Open, so a listener's Begin that names an incoming one is not found, and what
-/// comes after it is not sent.
-fn close_answered(both: &Both, with_error: bool) -> (Vec<u8>, Outcome) {
-    let mut written = Vec::new();
-    for lent in split(to_send(both.event)) {
-        if both.role == Role::Listener && remote_in(lent).is_some() {
-            written.extend(close(Some(&error("amqp:not-found", Some("Outgoing channel is not found")))));
-            return (written, Outcome::NotFound);
-        }
-        written.extend(rewritten(lent));
-    }
-    written.extend(close(None));
-    (written, if with_error { Outcome::RemoteClosedWithError } else { Outcome::RemoteClosed })
 }
 
 /// An Open with an idle-time-out of 0, where an Open is taken.
@@ -931,7 +857,7 @@ struct Oversized {
     held: Account,
 }
 
-/// The frames that an event sends in turn, where its state lets it begin with them, and the state then. After a Close in OpenPipe or OpenClosePipe the Rust alone sends any.
+/// The frames that an event sends in turn, where its state lets it begin with them, and the state then.
 fn sends<'a>(both: &'a Both) -> Option<(Vec<&'a [u8]>, Option<Vec<u8>>, u8)> {
     let state = both.before.state;
     match both.event {

@@ -215,8 +215,6 @@ impl Definition {
         let next = match self.state {
             START => HEADER_RECEIVED,
             HEADER_SENT => HEADER_EXCHANGE,
-            OPEN_PIPE => OPEN_SENT,
-            OPEN_CLOSE_PIPE => CLOSE_PIPE,
             _ => return Err(20),
         };
         if header[4..] == [0, 1, 0, 0] {
@@ -347,7 +345,7 @@ impl Definition {
 
     fn receive_close(&mut self, error: bool) -> Inner {
         self.state = match self.state {
-            OPENED | OPEN_RECEIVED | OPEN_SENT => CLOSE_RECEIVED,
+            OPENED | OPEN_PIPE | OPEN_CLOSE_PIPE | OPEN_RECEIVED | OPEN_SENT => CLOSE_RECEIVED,
             CLOSE_SENT | DISCARDING => END,
             _ => return Err(20),
         };

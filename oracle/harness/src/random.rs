@@ -13,9 +13,6 @@ const MANY: u16 = 255;
 /// The state in which sessions' frames are read.
 const OPENED: u8 = 9;
 
-/// The states in which header and Open were sent at once, and the peer's header is to come.
-const PIPES: [u8; 2] = [4, 5];
-
 /// How many times as long as another list one with a crowd may be.
 const LONGER: usize = 4;
 
@@ -310,9 +307,6 @@ fn any_handle(dice: &mut Dice) -> u32 {
 fn event(dice: &mut Dice, place: &Place) -> Event {
     let handle = any_handle(dice);
     let waits = place.account.phase == Phase::Awaiting && !dice.one_in(20);
-    if PIPES.contains(&place.account.state) && dice.one_in(4) {
-        return first(dice, place, handle);
-    }
     match if waits { 0 } else { dice.below(1000) } {
         0..=499 => {
             let frame = incoming(dice, place);
@@ -340,20 +334,6 @@ fn event(dice: &mut Dice, place: &Place) -> Event {
         997 => Event::SendHeader,
         _ => Event::Tick,
     }
-}
-
-/// What comes first where the peer's header is to come: a header, or a Close, which is too early. Now and then a damaged frame waits.
-fn first(dice: &mut Dice, place: &Place, spare: u32) -> Event {
-    let frame = match dice.below(4) {
-        0 => close(None),
-        1 => close(Some(&error("amqp:internal-error", None))),
-        _ => return Event::ReceiveHeader(any_header(dice)),
-    };
-    let mut waiting = place.waiting(dice);
-    if dice.one_in(6) {
-        waiting.extend(damaged(dice, end(0)));
-    }
-    Event::Incoming { frame, spare, waiting }
 }
 
 /// A header: that of AMQP, of other protocols, malformed, short, or with bytes after it.
@@ -410,37 +390,20 @@ impl Crowd {
     }
 }
 
-/// A dial that is sent at once: header, Open, and often a Close. Mostly the peer's header and Open come then, now and then another header first or alone, and often its Close where one was sent.
-fn dial(dice: &mut Dice, header: Event, open: Event) -> Vec<Event> {
-    let mut events = vec![Event::SendHeader, Event::SendOpen];
-    let closes = dice.one_in(2);
-    events.extend(closes.then_some(Event::Close { waiting: Vec::new() }));
-    match dice.below(6) {
-        0 => {}
-        1 => events.push(Event::ReceiveHeader(any_header(dice))),
-        2 => events.extend([Event::ReceiveHeader(any_header(dice)), header, open]),
-        _ => events.extend([header, open]),
-    }
-    let closed = closes && dice.one_in(2);
-    events.extend(closed.then(|| Event::Incoming { frame: close(None), spare: 0, waiting: Vec::new() }));
-    events
-}
-
-/// A beginning: mostly an opening, in one order or the other, or with a dial that is sent at once; before a crowd always one of the first two, and with many channels.
+/// A beginning: mostly an opening, in one order or the other; before a crowd always, and with many channels.
 fn beginning(dice: &mut Dice, crowd: bool) -> Vec<Event> {
     let header = Event::ReceiveHeader(b"AMQP\x00\x01\x00\x00".to_vec());
     let frame = if crowd { open(4096, dice.pick(&[255, 256, 4095, 65534, 65535]), None) } else { any_open(dice) };
     let open = Event::Incoming { frame, spare: 0, waiting: Vec::new() };
-    match if crowd { 12 + dice.below(2) } else { dice.below(24) } {
+    match if crowd { 14 + dice.below(2) } else { dice.below(24) } {
         0 => Vec::new(),
         1 => vec![Event::SendHeader, Event::SendOpen],
         2 => vec![Event::SendHeader, header, Event::SendOpen],
         3 => vec![Event::SendHeader, header, Event::SendOpen, Event::Close { waiting: Vec::new() }],
         4 => vec![header, Event::SendHeader, open],
         5 => vec![Event::ReceiveHeader(any_header(dice))],
-        6..=12 => vec![Event::SendHeader, header, Event::SendOpen, open],
-        13..=19 => vec![header, Event::SendHeader, open, Event::SendOpen],
-        _ => dial(dice, header, open),
+        6..=14 => vec![Event::SendHeader, header, Event::SendOpen, open],
+        _ => vec![header, Event::SendHeader, open, Event::SendOpen],
     }
 }
 

@@ -121,26 +121,6 @@ fn freed(letters: &Letters) {
     spelled(Role::Listener, letters, &[&opening[..], &["Begin 1", "free 1", "Transfer 1"]].concat());
 }
 
-/// Dials that are sent at once, without a Close and with one: then a header, one of another protocol, headers that are none, or a Close that is too early.
-fn piped(letters: &Letters) {
-    let dials: [&[&str]; 2] = [&["send header", "send Open"], &["send header", "send Open", "order to close"]];
-    let rest: [&[&str]; 8] = [
-        &["header", "Open", "Close"],
-        &["header", "Open", "allocate 1", "Begin 0 for 0", "Attach 0"],
-        &["header", "header", "Close"],
-        &["header of SASL", "tick"],
-        &["malformed header", "short header", "header", "Open"],
-        &["Close"],
-        &["Close with error"],
-        &["Close, frames wait"],
-    ];
-    for role in [Role::Dialler, Role::Listener] {
-        for dial in dials {
-            rest.iter().for_each(|rest| spelled(role, letters, &[dial, rest].concat()));
-        }
-    }
-}
-
 /// A walk through the alphabet.
 fn walk(seed: u64, letters: &Letters) {
     let mut dice = Dice::new(seed);
@@ -181,7 +161,6 @@ pub fn record() {
     let letters = crate::alphabet::alphabet();
     spelled(Role::Listener, &letters, &["header of SASL", "allocate 1"]);
     freed(&letters);
-    piped(&letters);
     (1..=250).for_each(|seed| walk(seed, &letters));
     let random = |seed| {
         let mut dice = Dice::new(seed);

@@ -84,7 +84,7 @@ returns-2 c =
     let v = r.before.before.before.before.before.before in
     let g = v.before.before in
     settings_laid g.before.before.before.before.before.args.engine _ g.before.before.before.if1.false _ g.before.before.connection.ensures _ g.before.local-open.ensures _ g.idle_time_out_is.ensures _ v.put-number.ensures
-    _ r.before.before.role.ensures _ r.before.role-number.ensures _ r.put-number2.ensures f.before.before.is_there_lem.result f.before.before.is_there_lem.ensures _ f.before.flag.ensures _ f.put-number3.ensures
+    _ r.before.before.role.ensures _ r.before.role-number.ensures _ r.put-number2.ensures f.before.before.is-there.result f.before.before.is-there.ensures _ f.before.flag.ensures _ f.put-number3.ensures
     _ h.before.channel_max_is.ensures _ h.put-number4.ensures _ z.before.max_frame_size_is.ensures _ z.put-number5.ensures _ m.before.millis.ensures _ m.put-number6.ensures
 
 pub put-settings-spec : {M : Type 1} → statement M

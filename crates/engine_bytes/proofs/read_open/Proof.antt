@@ -2,7 +2,7 @@
 -- Assumes nothing.
 use mathlib.Core.Path.{refl}
 use borrow.Author.Rules.{rules}
-use Rattle.engine_bytes.proofs.Reading.{open_flag, open_long, open_read_is}
+use Rattle.engine_bytes.proofs.Reading.{open_flag, open_long, open_read_lem}
 use Rattle.engine_bytes.proofs.read_open.Statement.{statement}
 use Rattle.engine_bytes.proofs.read_open.Tie as tie
 
@@ -54,7 +54,7 @@ returns-3 : tie.Need-returns-3
 returns-3 c =
     let i = c.before.before.before.before in
     let n = i.before.before.before in
-    open_read_is _ n.before.before.before.before.requires n.before.if1.false n.two_at.result n.two_at.ensures c.new.result _ c.before.before.four-at2.result c.before.two-at2.result i.before.four-at.result i.idle-of.result refl c.new.ensures c.before.before.four-at2.ensures c.before.two-at2.ensures i.idle-of.ensures i.before.four-at.ensures
+    open_read_lem _ n.before.before.before.before.requires n.before.if1.false n.two_at.result n.two_at.ensures c.new.result _ c.before.before.four-at2.result c.before.two-at2.result i.before.four-at.result i.idle-of.result refl c.new.ensures c.before.before.four-at2.ensures c.before.two-at2.ensures i.idle-of.ensures i.before.four-at.ensures
 
 pub read-open-spec : {M : Type 1} → statement M
 read-open-spec =

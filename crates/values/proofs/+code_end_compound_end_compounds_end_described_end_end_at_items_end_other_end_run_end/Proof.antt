@@ -32,7 +32,7 @@ use Rattle.values.proofs.+code_end_compound_end_compounds_end_described_end_end_
 use Rattle.values.proofs.items_end.Reads as items_end
 use Rattle.values.proofs.items_end.Kinds as items-end-kinds
 use Rattle.values.proofs.+code_end_compound_end_compounds_end_described_end_end_at_items_end_other_end_run_end.Lts-items_end as items-end-lts
-use Rattle.values.proofs.other_end.Reads as other_end
+use Rattle.values.proofs.other_end.Reads as other-end
 use Rattle.values.proofs.other_end.Kinds as other-end-kinds
 use Rattle.values.proofs.+code_end_compound_end_compounds_end_described_end_end_at_items_end_other_end_run_end.Lts-other_end as other-end-lts
 use Rattle.values.proofs.run_end.Reads as run_end
@@ -132,10 +132,10 @@ abbrev items_end_below : ℕ → In 1 items-end-kinds.ps
 items_end_below t = and 1 items-end-kinds.ps (falls 1 items-end-kinds.ps ◌<◌ μ_items_end t) items_end.Pre
 
 abbrev other_end_at : ℕ → In 1 other-end-kinds.ps
-other_end_at t = and 1 other-end-kinds.ps (is 1 other-end-kinds.ps μ_other_end t) other_end.Pre
+other_end_at t = and 1 other-end-kinds.ps (is 1 other-end-kinds.ps μ_other_end t) other-end.Pre
 
 abbrev other_end_below : ℕ → In 1 other-end-kinds.ps
-other_end_below t = and 1 other-end-kinds.ps (falls 1 other-end-kinds.ps ◌<◌ μ_other_end t) other_end.Pre
+other_end_below t = and 1 other-end-kinds.ps (falls 1 other-end-kinds.ps ◌<◌ μ_other_end t) other-end.Pre
 
 abbrev run_end_at : ℕ → In 1 run-end-kinds.ps
 run_end_at t = and 1 run-end-kinds.ps (is 1 run-end-kinds.ps μ_run_end t) run_end.Pre
@@ -355,7 +355,7 @@ described_end_returns_3 t c = search described_end_steps
 -- ---- end_at
 
 abbrev end_at_calls : ℕ → end-at-lts.Claims
-end_at_calls t = (is-plain-reads.Asked, is-plain-reads.Learnt, plain-end-reads.Asked, plain-end-reads.Learnt, other_end_below t, other_end.Post)
+end_at_calls t = (is-plain-reads.Asked, is-plain-reads.Learnt, plain-end-reads.Asked, plain-end-reads.Learnt, other_end_below t, other-end.Post)
 
 end_at_returns : (t : ℕ) → end-at-lts.Need-returns (end_at_calls t) (end_at_at t) end-at.Post
 end_at_returns t c = search end_at_steps
@@ -427,55 +427,55 @@ items_end_returns_3 t c = search items_end_steps
 abbrev other_end_calls : ℕ → other-end-lts.Claims
 other_end_calls t = (described_end_below t, described-end.Post, boolean-end-reads.Asked, boolean-end-reads.Learnt, compound_end_below t, compound-end.Post, code_end_below t, code-end.Post)
 
-other_end_add_described_end : (t : ℕ) → other-end-lts.Need-overflow-add-described-end (other_end_calls t) (other_end_at t) other_end.Post
+other_end_add_described_end : (t : ℕ) → other-end-lts.Need-overflow-add-described-end (other_end_calls t) (other_end_at t) other-end.Post
 other_end_add_described_end t c = search other_end_steps
 
-other_end_sub_described_end : (t : ℕ) → other-end-lts.Need-overflow-sub-described-end (other_end_calls t) (other_end_at t) other_end.Post
+other_end_sub_described_end : (t : ℕ) → other-end-lts.Need-overflow-sub-described-end (other_end_calls t) (other_end_at t) other-end.Post
 other_end_sub_described_end t c = search other_end_steps
 
-other_end_described_end_requires : (t : ℕ) → other-end-lts.Need-described-end-requires (other_end_calls t) (other_end_at t) other_end.Post
+other_end_described_end_requires : (t : ℕ) → other-end-lts.Need-described-end-requires (other_end_calls t) (other_end_at t) other-end.Post
 other_end_described_end_requires t c κs = search other_end_steps
 
-other_end_returns : (t : ℕ) → other-end-lts.Need-returns (other_end_calls t) (other_end_at t) other_end.Post
+other_end_returns : (t : ℕ) → other-end-lts.Need-returns (other_end_calls t) (other_end_at t) other-end.Post
 other_end_returns t c = search other_end_steps
 
-other_end_add_boolean_end : (t : ℕ) → other-end-lts.Need-overflow-add-boolean-end (other_end_calls t) (other_end_at t) other_end.Post
+other_end_add_boolean_end : (t : ℕ) → other-end-lts.Need-overflow-add-boolean-end (other_end_calls t) (other_end_at t) other-end.Post
 other_end_add_boolean_end t c = search other_end_steps
 
-other_end_boolean_end_requires : (t : ℕ) → other-end-lts.Need-boolean-end-requires (other_end_calls t) (other_end_at t) other_end.Post
+other_end_boolean_end_requires : (t : ℕ) → other-end-lts.Need-boolean-end-requires (other_end_calls t) (other_end_at t) other-end.Post
 other_end_boolean_end_requires t c κs = search other_end_steps
 
-other_end_returns_2 : (t : ℕ) → other-end-lts.Need-returns-2 (other_end_calls t) (other_end_at t) other_end.Post
+other_end_returns_2 : (t : ℕ) → other-end-lts.Need-returns-2 (other_end_calls t) (other_end_at t) other-end.Post
 other_end_returns_2 t c = search other_end_steps
 
-other_end_add_compound_end : (t : ℕ) → other-end-lts.Need-overflow-add-compound-end (other_end_calls t) (other_end_at t) other_end.Post
+other_end_add_compound_end : (t : ℕ) → other-end-lts.Need-overflow-add-compound-end (other_end_calls t) (other_end_at t) other-end.Post
 other_end_add_compound_end t c = search other_end_steps
 
-other_end_sub_compound_end : (t : ℕ) → other-end-lts.Need-overflow-sub-compound-end (other_end_calls t) (other_end_at t) other_end.Post
+other_end_sub_compound_end : (t : ℕ) → other-end-lts.Need-overflow-sub-compound-end (other_end_calls t) (other_end_at t) other-end.Post
 other_end_sub_compound_end t c = search other_end_steps
 
-other_end_compound_end_requires : (t : ℕ) → other-end-lts.Need-compound-end-requires (other_end_calls t) (other_end_at t) other_end.Post
+other_end_compound_end_requires : (t : ℕ) → other-end-lts.Need-compound-end-requires (other_end_calls t) (other_end_at t) other-end.Post
 other_end_compound_end_requires t c κs = search other_end_steps
 
-other_end_returns_3 : (t : ℕ) → other-end-lts.Need-returns-3 (other_end_calls t) (other_end_at t) other_end.Post
+other_end_returns_3 : (t : ℕ) → other-end-lts.Need-returns-3 (other_end_calls t) (other_end_at t) other-end.Post
 other_end_returns_3 t c = search other_end_steps
 
-other_end_add_compound_end_2 : (t : ℕ) → other-end-lts.Need-overflow-add-compound-end-2 (other_end_calls t) (other_end_at t) other_end.Post
+other_end_add_compound_end_2 : (t : ℕ) → other-end-lts.Need-overflow-add-compound-end-2 (other_end_calls t) (other_end_at t) other-end.Post
 other_end_add_compound_end_2 t c = search other_end_steps
 
-other_end_sub_compound_end_2 : (t : ℕ) → other-end-lts.Need-overflow-sub-compound-end-2 (other_end_calls t) (other_end_at t) other_end.Post
+other_end_sub_compound_end_2 : (t : ℕ) → other-end-lts.Need-overflow-sub-compound-end-2 (other_end_calls t) (other_end_at t) other-end.Post
 other_end_sub_compound_end_2 t c = search other_end_steps
 
-other_end_compound_end_requires_2 : (t : ℕ) → other-end-lts.Need-compound-end-requires-2 (other_end_calls t) (other_end_at t) other_end.Post
+other_end_compound_end_requires_2 : (t : ℕ) → other-end-lts.Need-compound-end-requires-2 (other_end_calls t) (other_end_at t) other-end.Post
 other_end_compound_end_requires_2 t c κs = search other_end_steps
 
-other_end_returns_4 : (t : ℕ) → other-end-lts.Need-returns-4 (other_end_calls t) (other_end_at t) other_end.Post
+other_end_returns_4 : (t : ℕ) → other-end-lts.Need-returns-4 (other_end_calls t) (other_end_at t) other-end.Post
 other_end_returns_4 t c = search other_end_steps
 
-other_end_code_end_requires : (t : ℕ) → other-end-lts.Need-code-end-requires (other_end_calls t) (other_end_at t) other_end.Post
+other_end_code_end_requires : (t : ℕ) → other-end-lts.Need-code-end-requires (other_end_calls t) (other_end_at t) other-end.Post
 other_end_code_end_requires t c κs = search other_end_steps
 
-other_end_returns_5 : (t : ℕ) → other-end-lts.Need-returns-5 (other_end_calls t) (other_end_at t) other_end.Post
+other_end_returns_5 : (t : ℕ) → other-end-lts.Need-returns-5 (other_end_calls t) (other_end_at t) other-end.Post
 other_end_returns_5 t c = search other_end_steps
 
 -- ---- run_end
@@ -654,7 +654,7 @@ pub +code-end-compound-end-compounds-end-described-end-end-at-items-end-other-en
     (items_end_returns_3 t))
     (λ t. other-end-lts.spec (other_end_calls t)
     (other_end_at t)
-    other_end.Post
+    other-end.Post
     (other_end_add_described_end t)
     (other_end_sub_described_end t)
     (other_end_described_end_requires t)

@@ -20,6 +20,12 @@ enum-told-4 c = search rules
 enum-told-5 : tie.Need-enum-told-5
 enum-told-5 c = search rules
 
+enum-told-6 : tie.Need-enum-told-6
+enum-told-6 c = search rules
+
+enum-told-7 : tie.Need-enum-told-7
+enum-told-7 c = search rules
+
 returns : tie.Need-returns
 returns c = search (there (along read_close), rules)
 
@@ -36,7 +42,13 @@ returns-5 : tie.Need-returns-5
 returns-5 c = search (there (along read_close), rules)
 
 returns-6 : tie.Need-returns-6
-returns-6 c = search (illegal read_close, rules)
+returns-6 c = search (there (along read_close), rules)
+
+returns-7 : tie.Need-returns-7
+returns-7 c = search (there (along read_close), rules)
+
+returns-8 : tie.Need-returns-8
+returns-8 c = search (illegal read_close, rules)
 
 pub receive-close-spec : {M : Type 1} → statement M
-receive-close-spec = tie.close (tie.spec enum_told enum-told-2 enum-told-3 enum-told-4 enum-told-5 returns returns-2 returns-3 returns-4 returns-5 returns-6)
+receive-close-spec = tie.close (tie.spec enum_told enum-told-2 enum-told-3 enum-told-4 enum-told-5 enum-told-6 enum-told-7 returns returns-2 returns-3 returns-4 returns-5 returns-6 returns-7 returns-8)

@@ -11,12 +11,6 @@ enum_told c = search rules
 enum-told-2 : tie.Need-enum-told-2
 enum-told-2 c = search rules
 
-enum-told-3 : tie.Need-enum-told-3
-enum-told-3 c = search rules
-
-enum-told-4 : tie.Need-enum-told-4
-enum-told-4 c = search rules
-
 returns : tie.Need-returns
 returns c = search (there (along receive_other_header), rules)
 
@@ -24,13 +18,7 @@ returns-2 : tie.Need-returns-2
 returns-2 c = search (there (along receive_other_header), rules)
 
 returns-3 : tie.Need-returns-3
-returns-3 c = search (there (along receive_other_header), rules)
-
-returns-4 : tie.Need-returns-4
-returns-4 c = search (there (along receive_other_header), rules)
-
-returns-5 : tie.Need-returns-5
-returns-5 c = search (illegal receive_other_header, rules)
+returns-3 c = search (illegal receive_other_header, rules)
 
 pub receive-other-header-spec : {M : Type 1} → statement M
-receive-other-header-spec = tie.close (tie.spec enum_told enum-told-2 enum-told-3 enum-told-4 returns returns-2 returns-3 returns-4 returns-5)
+receive-other-header-spec = tie.close (tie.spec enum_told enum-told-2 returns returns-2 returns-3)

@@ -240,13 +240,6 @@ impl Oracle {
         self.look();
     }
 
-    /// Sets the state, for a header that the published code does not take: in OpenPipe and OpenClosePipe it takes none.
-    pub fn adopt_state(&mut self, state: ConnectionState) {
-        let engine = self.engine.as_mut().expect("an engine that is given a header is at hand");
-        engine.connection.inner.core_mut().local_state = state;
-        engine.connection.show();
-    }
-
     /// Whether channels and ties are shown after each call, which takes long where there are very many. While they are not, there seem to be none.
     pub fn show_channels(&mut self, shown: bool) {
         self.window.lock().unwrap().shows_channels = shown;
