@@ -83,6 +83,17 @@ def respell(text, new, comment):
     return "\n".join(out)
 
 
+def borrowed(text):
+    """The names that a file has from libraries: these keep their spelling."""
+    own = {f.split("/")[1] for f in glob.glob("crates/*/")}
+    found = set()
+    for module, names in re.findall(r"(?m)^(?:ghost )?use (\S+)\.\{([^}]*)\}", text):
+        parts = module.split(".")
+        if parts[0] != "Rattle" or len(parts) > 1 and parts[1] not in own:
+            found |= {n.split(" as ")[0].strip() for n in names.split(",")}
+    return found
+
+
 def declares(text, name):
     return re.search(r"(?m)^\s*(pub |abbrev |unfoldable )*" + re.escape(name) + r" :\s", text)
 
@@ -92,7 +103,8 @@ def main():
     for f in files("specs/**/*.antt") + files("proofs/**/*.antt") + files("src/**/*.rt"):
         text = open(f, encoding="utf-8").read()
         here = {n: to for n, to in own.items() if "/proofs/" in f and declares(text, n)}
-        after = respell(text, new | here, "//" if f.endswith(".rt") else "-- ")
+        kept = borrowed(text)
+        after = respell(text, {n: to for n, to in (new | here).items() if n not in kept}, "//" if f.endswith(".rt") else "-- ")
         if after != text:
             open(f, "w", encoding="utf-8").write(after)
     for n, to in sorted(new.items()):

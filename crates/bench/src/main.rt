@@ -11,6 +11,8 @@
 //
 // The line is printed with the sum of the answers: for `transfer` the handles, for `pair` the handles and the channels, for `open` the idle-time-outs,
 // for `tick` the bytes written and the handles, for `write` the bytes written; and once the number of sessions, or for `open` the first channel.
+#![tactic(auto)]
+
 mod answers;
 mod calls;
 mod events;

@@ -20,6 +20,8 @@
 //
 // The room is how many bytes of output are lent. They hold a pattern at first, and where the call changes one that it does not count as written the
 // answer is `touched`. A line that is no case is answered `badline`.
+#![tactic(auto)]
+
 mod answers;
 mod runs;
 mod spelling;

@@ -1,6 +1,8 @@
 // The channels of a connection: the outgoing numbers from 0 to the agreed channel-max, taken and free, and in `ties` the incoming ones.
 // A few counts go by value. What each number has stands in the lent tables, and only places of numbers that were handed out before are ever
 // looked at, so new tables need no preparation here, and no call's cost depends on how many numbers there are.
+#![tactic(auto)]
+
 pub mod places;
 pub mod ties;
 

@@ -1,6 +1,8 @@
 // An AMQP connection: its calls, each of which takes the connection and gives it back with its answer. By value go its state, role, limits and
 // numbers. Its tables and its container-id are lent to the calls that need them, and belong to it: who alters them in between loses the promises that
 // speak of what calls led to, and no others.
+#![tactic(auto)]
+
 mod receiving;
 mod sending;
 mod sessions;

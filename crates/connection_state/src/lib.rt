@@ -1,4 +1,6 @@
 // The states of a connection and the moves between them (Part 2, section 2.4.6).
+#![tactic(auto)]
+
 ghost use Rattle.std.specs.Prelude.{◌≡◌};
 ghost use Rattle.connection_state.specs.States.{along, is, is_one_of, numbered, with_number, CloseReceived, Discarding, End};
 ghost use Rattle.connection_state.specs.States.{send_header, receive_header, receive_other_header, send_open, read_open, send_close, send_close_with_error, read_close};

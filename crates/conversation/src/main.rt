@@ -3,6 +3,8 @@
 // Standard input has the bytes of both sides, headers and frames one after the other in the order in which they were sent. What starts with the letter A is a header.
 // Frames are read with a limit of 16,384 bytes, on every channel. A header or frame that is refused has a line with the number of its refusal; where
 // that leaves unknown how long the frame is (1, 3 and 4), the program stops there. It takes at most 65,535 bytes, and says so where there are more.
+#![tactic(auto)]
+
 mod columns;
 mod rows;
 

@@ -1,5 +1,7 @@
 // What one end of a connection holds besides its state: its role, its settings, the limits of the frames that it reads and writes, and in the
 // lent tables the sessions by outgoing and by incoming channel.
+#![tactic(auto)]
+
 mod outgoing;
 mod routing;
 

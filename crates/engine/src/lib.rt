@@ -1,4 +1,6 @@
 // The engine of a connection: its events, each of which takes the engine and gives it back with its answer.
+#![tactic(auto)]
+
 mod control;
 mod ending;
 mod error;

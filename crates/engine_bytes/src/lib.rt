@@ -1,4 +1,6 @@
 // An engine from bytes and to bytes: what a C caller keeps between events. The fixed part of 300 bytes is judged whole, of the tables behind it only their length.
+#![tactic(auto)]
+
 pub mod numbers;
 
 ghost use Rattle.std.specs.Prelude.{◌≡◌, [], ◌+◌, ◌≤◌, length};

@@ -1,4 +1,6 @@
 // Frames, read from bytes: Part 2, section 2.3.
+#![tactic(auto)]
+
 ghost use Rattle.std.specs.Prelude.{◌≡◌};
 ghost use Rattle.frame_decoder.specs.Frame.{frame, body_of, session_frames};
 ghost use Rattle.frame_decoder.specs.Answers.{

@@ -1,5 +1,7 @@
 // Frames written: Open, Close, and the empty frame.
 // A frame's length is known, and every refusal found, before its first byte is written.
+#![tactic(auto)]
+
 ghost use Rattle.std.specs.Prelude.{◌≡◌, ◌+◌, ◌≤◌, ◌<◌, [], ◌∷◌, ◌++◌, length};
 ghost use Rattle.std.proofs.Math.Option.{Option, none, some};
 ghost use Rattle.octets.specs.Octets.{put};

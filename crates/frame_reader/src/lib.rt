@@ -1,4 +1,6 @@
 // The frame reader as C calls it, without an engine: for a program that looks at frames and holds no connection.
+#![tactic(auto)]
+
 ghost use Rattle.std.specs.Prelude.{◌≡◌, ◌≤◌, length};
 ghost use Rattle.octets.specs.Octets.{put};
 ghost use Rattle.performatives.specs.Answers.{performative_says};

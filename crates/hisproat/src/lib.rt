@@ -1,5 +1,7 @@
 // The engine as C calls it: numbers and byte slices only. The lent state has a fixed part, which each event reads whole and lays back as far as it can change,
 // and behind it the tables, which the engine is lent as they stand. A function returns 0, or the number of a refusal, and then no lent byte has changed.
+#![tactic(auto)]
+
 mod answers;
 mod status;
 

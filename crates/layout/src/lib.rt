@@ -1,4 +1,6 @@
 // A number that may be absent, laid as bytes.
+#![tactic(auto)]
+
 ghost use Rattle.std.specs.Prelude.{◌≡◌};
 ghost use Rattle.octets.specs.Octets.{put};
 ghost use Rattle.layout.specs.Layout.{may, held};

@@ -5,6 +5,8 @@
 // wrote last. In two bytes stands the channel-max of a new connection, how many sessions are allocated, of which the last is told of, and the first channel that is
 // told of. Lines that start with `--` are titles.
 // Every call has a line of output: whose it is, the call, the state afterwards, what it was lent, and the answer.
+#![tactic(auto)]
+
 mod calls;
 mod rows;
 

@@ -1,4 +1,6 @@
 // What this end of a connection says in its Open, checked once and kept. The container-id is lent where it is needed.
+#![tactic(auto)]
+
 ghost use Rattle.std.specs.Prelude.{◌≡◌};
 ghost use Rattle.octets.specs.Output.{Wrote};
 ghost use Rattle.frame_encoder.specs.Frames.{write_open};

@@ -1,18 +1,16 @@
 -- Laws of verdicts, of numbers as bytes, and of bytes laid into a buffer.
 -- Assumes nothing.
-use mathlib.Core.Path.{◌≡◌, refl, sym, ap, ◌∙◌, subst}
-use mathlib.Core.Bool.{Bool, true, false, cond}
-use mathlib.Core.List.{List, [], ◌∷◌, ◌++◌, append_assoc, append-nil}
-use Prim.Native.Nat.{ℕ, zero, suc, ◌+◌, ◌*◌, ◌-◌, ◌/◌, ◌%◌, ◌^◌, ◌<◌, ◌≤◌}
-use native.Mathlib.Nat.{add-suc, suc-add, add-zero, zero-add, mul-add}
-use native.Mathlib.Numerals.{add-one}
+use mathlib.Core.Path.{◌≡◌, refl, sym, ap, ◌∙◌}
+use mathlib.Core.Bool.{Bool, true, false}
+use mathlib.Core.List.{List, [], ◌∷◌, ◌++◌, append_assoc}
+use Prim.Native.Nat.{ℕ, zero, suc, ◌+◌, ◌*◌, ◌-◌, ◌<◌, ◌≤◌}
+use native.Mathlib.Nat.{add-suc, suc-add, add-zero, zero-add}
 use native.Mathlib.Omega.{arith}
-use lib.ListN.{length, take, drop, get_or, set, length-set, length-take, length-drop, length-append, drop_of_length-le}
-use lib.Seq.{take_all, take-length, take_at, drop_at, take-append-le, drop-append-le, drop-append-add, drop-drop, take-take, set_split, length-take-le, take-append_seam, drop-append_seam, sets, length-sets, sets-eq}
-use lib.Pow.{pow_mono, pow-add}
+use lib.ListN.{length, take, drop, get_or, set, length-append}
+use lib.Seq.{drop_at, take-append-le, take-take, set_split, length-take-le, sets, length-sets, sets-eq}
 use lib.Dec.{leb}
 use borrow.Author.Tests.{le-leb, lt-leb, leb-true, leb-false}
-use Rattle.octets.specs.Verdict.{Verdict, refuse, accept, require, and_then, accepts}
+use Rattle.octets.specs.Verdict.{Verdict, refuse, accept, require, and_then}
 use Rattle.octets.specs.Octets.{big_endian_from, big_endian, bytes_of, put}
 use Rattle.octets.specs.Output.{room_for, laid, counted, written, Wrote}
 use Rattle.octets.specs.declared.Written.TheVariants.{Bytes, Refused}

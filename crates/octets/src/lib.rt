@@ -1,4 +1,6 @@
 // Numbers in bytes, the first of which counts most, and writing into a lent buffer.
+#![tactic(auto)]
+
 ghost use Rattle.std.specs.Prelude.{◌≡◌, ◌*◌, ◌^◌, ◌<◌, length, take};
 ghost use Rattle.octets.specs.Octets.{big_endian, bytes_of, put};
 

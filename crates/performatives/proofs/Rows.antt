@@ -1,7 +1,7 @@
 -- Fields by their rows: what each step of `suits` and `fields` shows, for all rows together.
 -- Assumes nothing.
 use mathlib.Core.Path.{◌≡◌, refl, sym, ap, ◌∙◌}
-use mathlib.Core.Bool.{Bool, true, false, cond, not, ◌&&◌, and_false}
+use mathlib.Core.Bool.{Bool, true, false, cond, not, ◌&&◌, and-false}
 use mathlib.Core.List.{List, [], ◌∷◌}
 use mathlib.Core.Option.{Option, none, some}
 use Prim.Native.Nat.{ℕ, zero, suc, ◌+◌, ◌-◌, ◌*◌, ◌/◌, ◌%◌, ◌^◌, ◌<◌, ◌≤◌}
@@ -90,7 +90,7 @@ module _ (r : Field) (rest : List Field) (c : ℕ) (s : List ℕ) (n : ℕ) (e :
   step = rw e (go (split 16 c (drop n s)))
     where
       go : (w : Verdict (List (List ℕ))) → accepts (and_then (and_then w (λ fs. accept (take n s ∷ fs))) (λ fs. require 6 (fit (r ∷ rest) fs) (λ _. accept fs))) ≡ fits r.type r.mandatory (take n s) && accepts (and_then w (λ fs. require 6 (fit rest fs) (λ _. accept fs)))
-      go (refuse k) = sym (and_false (fits r.type r.mandatory (take n s)))
+      go (refuse k) = sym (and-false (fits r.type r.mandatory (take n s)))
       go (accept fs) =
           judged (fits r.type r.mandatory (take n s) && fit rest fs) (take n s ∷ fs)
           ∙ ap (λ (b : Bool). fits r.type r.mandatory (take n s) && b) (sym (judged (fit rest fs) fs))

@@ -1,4 +1,6 @@
 // Performatives, read from the bodies of frames: which it is, whether its fields are well formed and of their types, and what the layers above learn of it.
+#![tactic(auto)]
+
 mod composite;
 mod error;
 mod fields;

@@ -1,4 +1,6 @@
 // The protocol header, by which the two ends of a connection agree on what they speak (Part 2, section 2.2).
+#![tactic(auto)]
+
 ghost use Rattle.std.specs.Prelude.{◌≡◌};
 ghost use Rattle.octets.specs.Output.{Wrote};
 ghost use Rattle.protocol_header.specs.Header.{protocol_id, starts_with_all, is_amqp100, received, version100, has_id, header_bytes, write_header};

@@ -1,5 +1,7 @@
 // AMQP values in their shortest form, laid into a lent buffer. A function `.._len` says how many bytes a value takes, and the function
 // `put_..` of the same value lays them at a place, if they fit there.
+#![tactic(auto)]
+
 ghost use Rattle.std.specs.Prelude.{◌≡◌, ◌+◌, ◌<◌, ◌≤◌, length};
 ghost use Rattle.octets.specs.Octets.{put};
 ghost use Rattle.serializer.specs.Written.{uint, ushort, text, composite_header};

@@ -1,5 +1,7 @@
 // A session's frame, lent as one whole frame: written out with its performative in the written form.
 // The written length is known, and every refusal found, before the first byte is written.
+#![tactic(auto)]
+
 mod error;
 mod field;
 

@@ -1,7 +1,7 @@
 -- The rows of UTF-8 by their first octets: at most one row is a string's, and it decides how the string goes on.
 -- Assumes nothing.
 use mathlib.Core.Path.{◌≡◌, refl, sym, ap, ◌∙◌}
-use mathlib.Core.Bool.{Bool, true, false, cond, ◌&&◌, ◌||◌, or_false, false≢true}
+use mathlib.Core.Bool.{Bool, true, false, cond, ◌&&◌, ◌||◌, or-false, false≢true}
 use mathlib.Core.List.{List, [], ◌∷◌, Memᴰ}
 use Prim.Native.Nat.{ℕ, zero, suc, ◌-◌, ◌<◌, ◌≤◌}
 use native.Mathlib.Omega.{arith}
@@ -86,7 +86,7 @@ chosen f b s m ((r ∷ row) ∷ rows) a = go (in_range r b) refl (starts row s) 
 
     go : (x : Bool) → in_range r b ≡ x → (y : Bool) → rest ≡ leads (length_in rows (b ∷ s)) f
         → (and_also (x && y) (λ _. f (suc (length row))) || rest) ≡ leads (cond (x && y) (suc (length row)) (length_in rows (b ∷ s))) f
-    go true e true ih = rw (ih, none_in b s rows (below (suc r.1) b rows a.2 (let h : b ≤ r.1 = range_end r b e in omega arith))) (or_false _)
+    go true e true ih = rw (ih, none_in b s rows (below (suc r.1) b rows a.2 (let h : b ≤ r.1 = range_end r b e in omega arith))) (or-false _)
     go true e false ih = ih
     go false e true ih = ih
     go false e false ih = ih
@@ -146,6 +146,7 @@ char_in s = length_in_lem characters s
 -- ---- the row of a first octet
 
 from_row : (m b : ℕ) (r : Range) (row : List Range) (rows : List (List Range)) → Ascending m rows → Memᴰ (r ∷ row) rows → r.0 ≤ b → m ≤ b
+from_row m b r row [] a t h = elim t [ ]
 from_row m b r row ([] ∷ rows) a (Memᴰ.head e) h = absurd a
 from_row m b r row ((q ∷ qs) ∷ rows) a (Memᴰ.head e) h = let z : r ≡ q = cc in omega (arith, ap (λ (x : Range). x.0) z)
 from_row m b r row ([] ∷ rows) a (Memᴰ.tail t) h = absurd a
@@ -155,6 +156,7 @@ from_row m b r row ((q ∷ qs) ∷ rows) a (Memᴰ.tail t) h = let l : suc q.1 �
 row_in : (m b : ℕ) (s : List ℕ) (r : Range) (row : List Range) (rows : List (List Range)) → Ascending m rows → Memᴰ (r ∷ row) rows
     → r.0 ≤ b → b ≤ r.1 → length_in rows (b ∷ s) ≡ cond (starts row s) (suc (length row)) 0
 unfolding length_in starts
+row_in m b s r row [] a t l h = elim t [ ]
 row_in m b s r row ([] ∷ rows) a (Memᴰ.head e) l h = absurd a
 row_in m b s r row ((q ∷ qs) ∷ rows) a (Memᴰ.head e) l h =
     let z : q ≡ r = cc in

@@ -1,4 +1,6 @@
 // Whether octets are text: UTF-8 or ASCII.
+#![tactic(auto)]
+
 ghost use Rattle.std.specs.Prelude.{◌≡◌, ◌≤◌, length};
 ghost use Rattle.text.specs.Ascii.{ascii};
 ghost use Rattle.text.specs.Utf8.{in_range, utf8};

@@ -1,6 +1,8 @@
 // Whether bytes start with one well-formed AMQP 1.0 value, and where it ends.
 //
 // The functions whose names end in `_end` answer a place: that after what stands at `at`, or 0 where it is malformed. So the answer goes in a register.
+#![tactic(auto)]
+
 mod format_code;
 
 ghost use Rattle.std.specs.Prelude.{◌≡◌, true, cond, ◌+◌, ◌^◌, ◌<◌, ◌≤◌, eqb, length, take, drop, get_or};

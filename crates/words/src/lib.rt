@@ -1,4 +1,6 @@
 // The words of a line, and what they say: decimal numbers, and bytes in hexadecimal.
+#![tactic(auto)]
+
 ghost use Rattle.std.specs.Prelude.{◌≡◌};
 ghost use Rattle.words.specs.Words.{
   part_in,

@@ -1,0 +1,18 @@
+-- `word`: from each place that the loop has come to, the word is that many words further on.
+-- Assumes nothing.
+use mathlib.Core.Path.{sym, ap}
+use Prim.Native.Nat.{ℕ}
+use native.Mathlib.Nat.{sub-zero}
+use borrow.Author.Rules.{rules}
+use Rattle.words.specs.Words.{word_in}
+use Rattle.words.proofs.Laws.{word_next, word_here}
+use Rattle.words.proofs.word.Goals as goal
+
+pub loop-i-init : goal.loop-i-init
+loop-i-init c = ap (λ (k : ℕ). word_in k c.args.line.now) (sym (sub-zero c.args.n))
+
+pub loop-i-preserved : goal.loop-i-preserved
+loop-i-preserved c = search (word_next, rules)
+
+pub returns : goal.returns
+returns c = search (word_here, rules)

@@ -1,0 +1,13 @@
+-- `word`: from each place that the loop has come to, the word is that many words further on.
+-- Assumes nothing.
+use mathlib.Core.Path.{◌≡◌}
+use Prim.Native.Nat.{◌-◌}
+use lib.ListN.{drop}
+use Rattle.words.specs.Words.{word_in}
+use Rattle.words.proofs.word.Given as goal
+
+abbrev pub invariant-loop-i : goal.invariant-loop-i
+invariant-loop-i l = word_in l.n l.line ≡ word_in (l.n - l.i) (drop l.at l.line)
+
+abbrev pub decreases-loop-i : goal.decreases-loop-i
+decreases-loop-i l = l.n - l.i
