@@ -112,7 +112,7 @@ pub(crate) fn value(v: Value) -> Answer {
 }
 
 // The words in front of a performative's.
-#[derive(Drop)]
+#[derive(Clone, Copy)]
 struct Front {
     what: u64,
     channel: u64,

@@ -32,7 +32,7 @@ use libc::STDOUT_FILENO;
 use words::{find, part};
 
 // What became of a line.
-#[derive(Drop)]
+#[derive(Clone, Copy)]
 enum Outcome {
     NoCase,
     Right,
@@ -40,7 +40,7 @@ enum Outcome {
 }
 
 // How many lines there were, how many cases, and how many of these went wrong.
-#[derive(Drop)]
+#[derive(Clone, Copy)]
 struct Tally {
     lines: u64,
     run: u64,

@@ -20,7 +20,7 @@ const TAKEN: u32 = 65536;
 
 // The numbers below `used` were handed out at some time. `freed` of them, from `head` on by the links, are free again.
 // `highest` is the agreed channel-max. `opened` says whether the peer's Open has come, before which there are no numbers.
-#[derive(Drop)]
+#[derive(Clone, Copy)]
 pub struct OutgoingChannels {
     opened: bool,
     highest: u16,
@@ -30,42 +30,42 @@ pub struct OutgoingChannels {
 }
 
 // Counts that were kept. Where `fine` is false, they are beyond their limits, and those of a new connection stand in their place.
-#[derive(Drop)]
+#[derive(Clone, Copy)]
 pub struct Resumed {
     pub fine: bool,
     pub channels: OutgoingChannels,
 }
 
 // What a number has.
-#[derive(Drop)]
+#[derive(Clone, Copy)]
 pub enum Held {
     Handle(u32),
     Nothing,
 }
 
 // What allocating answers: a number, that the peer's Open has not come, or that every number is taken.
-#[derive(Drop)]
+#[derive(Clone, Copy)]
 pub enum Allocated {
     Channel(u16),
     NotOpened,
     Full,
 }
 
-#[derive(Drop)]
+#[derive(Clone, Copy)]
 pub struct Allocation {
     pub answer: Allocated,
     pub channels: OutgoingChannels,
 }
 
 // What deallocating answers: the handle that the number had, or nothing where it was not taken.
-#[derive(Drop)]
+#[derive(Clone, Copy)]
 pub struct Deallocation {
     pub answer: Held,
     pub channels: OutgoingChannels,
 }
 
 // A channel-max that was agreed, or that none was: there is none before the peer's Open.
-#[derive(Drop)]
+#[derive(Clone, Copy)]
 pub enum AgreedMax {
     Absent,
     Is(u16),

@@ -27,79 +27,79 @@ use local_open::{LocalOpen, NewOpen};
 use octets::Written;
 use protocol_header::ProtocolId;
 
-#[derive(Drop)]
+#[derive(Clone, Copy)]
 pub struct Connection {
     local_state: ConnectionState,
     endpoint: Endpoint,
 }
 
 // A new connection, or the refusal of its settings or tables.
-#[derive(Drop)]
+#[derive(Clone, Copy)]
 pub enum NewConnection {
     Made(Connection),
     Refused(u8),
 }
 
 // A connection that was kept, or that calls cannot lead to it.
-#[derive(Drop)]
+#[derive(Clone, Copy)]
 pub enum ResumedConnection {
     Is(Connection),
     Broken,
 }
 
-#[derive(Drop)]
+#[derive(Clone, Copy)]
 pub struct Sent {
     pub answer: Written,
     pub connection: Connection,
 }
 
 // A header that came: that of AMQP 1.0.0, or that of another protocol, with the number of bytes consumed.
-#[derive(Drop)]
+#[derive(Clone, Copy)]
 pub enum HeaderAnswer {
     Amqp(usize),
     OtherProtocol(usize),
     Refused(u8),
 }
 
-#[derive(Drop)]
+#[derive(Clone, Copy)]
 pub struct ReceivedHeader {
     pub answer: HeaderAnswer,
     pub connection: Connection,
 }
 
-#[derive(Drop)]
+#[derive(Clone, Copy)]
 pub struct ReceivedFrame {
     pub answer: FrameAnswer,
     pub connection: Connection,
 }
 
-#[derive(Drop)]
+#[derive(Clone, Copy)]
 pub enum AllocateAnswer {
     Channel(u16),
     Refused(u8),
 }
 
-#[derive(Drop)]
+#[derive(Clone, Copy)]
 pub struct AllocatedSession {
     pub answer: AllocateAnswer,
     pub connection: Connection,
 }
 
 // The freed handle, or the refusal: 26 where the channel was not taken.
-#[derive(Drop)]
+#[derive(Clone, Copy)]
 pub enum DeallocateAnswer {
     Freed(u32),
     Refused(u8),
 }
 
-#[derive(Drop)]
+#[derive(Clone, Copy)]
 pub struct DeallocatedSession {
     pub answer: DeallocateAnswer,
     pub connection: Connection,
 }
 
 // The handle that was looked up, or that there is none.
-#[derive(Drop)]
+#[derive(Clone, Copy)]
 pub enum HandleAnswer {
     Handle(u32),
     Nothing,
@@ -107,14 +107,14 @@ pub enum HandleAnswer {
 }
 
 // How many bytes a tick wrote, or that the connection is at its end.
-#[derive(Drop)]
+#[derive(Clone, Copy)]
 pub enum TickAnswer {
     Wrote(usize),
     Stop,
     Refused(u8),
 }
 
-#[derive(Drop)]
+#[derive(Clone, Copy)]
 pub struct Ticked {
     pub answer: TickAnswer,
     pub connection: Connection,

@@ -7,7 +7,7 @@ ghost use Rattle.connection_state.specs.States.{send_header, receive_header, rec
 ghost use Rattle.connection_state.specs.States.{reading, sending, before_open, after_open, stopped, silent};
 ghost use Rattle.connection_state.specs.Answers.{state_says, moved_says, numbered_says};
 
-#[derive(Drop)]
+#[derive(Clone, Copy)]
 pub enum ConnectionState {
     Start,
     HeaderReceived,
@@ -26,14 +26,14 @@ pub enum ConnectionState {
 }
 
 // Where a call leads, or that it is illegal in the state (20).
-#[derive(Drop)]
+#[derive(Clone, Copy)]
 pub enum Moved {
     To(ConnectionState),
     Illegal,
 }
 
 // The state that has a number, or that none has it.
-#[derive(Drop)]
+#[derive(Clone, Copy)]
 pub enum NumberedState {
     Is(ConnectionState),
     Unknown,

@@ -23,13 +23,13 @@ use local_open::LocalOpen;
 use octets::Written;
 
 // Who opened the transport: a dialler starts sessions only of its own, a listener also takes those that its peer starts.
-#[derive(Drop)]
+#[derive(Clone, Copy)]
 pub enum Role {
     Dialler,
     Listener,
 }
 
-#[derive(Drop)]
+#[derive(Clone, Copy)]
 pub struct Endpoint {
     role: Role,
     local_open: LocalOpen,
@@ -39,14 +39,14 @@ pub struct Endpoint {
 }
 
 // An endpoint that was kept, or that calls cannot lead to it.
-#[derive(Drop)]
+#[derive(Clone, Copy)]
 pub enum ResumedEndpoint {
     Is(Endpoint),
     Broken,
 }
 
 // A frame that came and has a performative: its channel, its length, and where its body starts.
-#[derive(Drop)]
+#[derive(Clone, Copy)]
 pub struct Incoming {
     pub channel: u16,
     pub size: usize,
@@ -55,7 +55,7 @@ pub struct Incoming {
 
 // What comes of a frame. Each but the refusal has the number of bytes that were consumed.
 // A body that goes on to a session has the session's handle, its own place and its length.
-#[derive(Drop)]
+#[derive(Clone, Copy)]
 pub enum FrameAnswer {
     NothingToDo {
         consumed: usize,
@@ -85,32 +85,32 @@ pub enum FrameAnswer {
     Refused(u8),
 }
 
-#[derive(Drop)]
+#[derive(Clone, Copy)]
 pub struct Routed {
     pub answer: FrameAnswer,
     pub endpoint: Endpoint,
 }
 
-#[derive(Drop)]
+#[derive(Clone, Copy)]
 pub struct SessionSent {
     pub answer: Written,
     pub endpoint: Endpoint,
 }
 
-#[derive(Drop)]
+#[derive(Clone, Copy)]
 pub struct SessionAllocated {
     pub answer: Allocated,
     pub endpoint: Endpoint,
 }
 
-#[derive(Drop)]
+#[derive(Clone, Copy)]
 pub struct SessionDeallocated {
     pub answer: Held,
     pub endpoint: Endpoint,
 }
 
 // What a session's frame that goes out does to the ties.
-#[derive(Drop)]
+#[derive(Clone, Copy)]
 pub(crate) enum OutgoingTie {
     Stay,
     To {

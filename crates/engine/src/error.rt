@@ -15,7 +15,7 @@ use endpoint::Role;
 use octets::Written;
 
 // An error inside an event: the outcome that it leads to, and what the peer is told.
-#[derive(Drop)]
+#[derive(Clone, Copy)]
 pub(crate) enum InnerError {
     TransportError,
     IllegalState,

@@ -27,7 +27,7 @@ use frame_encoder::IdleTimeOut;
 use octets::Written;
 
 // How an engine ends.
-#[derive(Drop)]
+#[derive(Clone, Copy)]
 pub enum Outcome {
     Fine,
     TransportError,
@@ -39,7 +39,7 @@ pub enum Outcome {
 }
 
 // While the peer's Close is awaited, the outcome to come is kept.
-#[derive(Drop)]
+#[derive(Clone, Copy)]
 pub enum Phase {
     Running,
     Awaiting(Outcome),
@@ -47,60 +47,60 @@ pub enum Phase {
 }
 
 // Whether the engine goes on after an event, or has stopped and how it ended; or the event's refusal.
-#[derive(Drop)]
+#[derive(Clone, Copy)]
 pub enum Running {
     Continue,
     Stop(Outcome),
     Refused(u8),
 }
 
-#[derive(Drop)]
+#[derive(Clone, Copy)]
 pub struct ConnectionEngine {
     phase: Phase,
     connection: Connection,
 }
 
 // A new engine, or the refusal of its settings or tables.
-#[derive(Drop)]
+#[derive(Clone, Copy)]
 pub enum NewEngine {
     Made(ConnectionEngine),
     Refused(u8),
 }
 
 // An engine that was kept, or that events cannot lead to its phase in its connection's state.
-#[derive(Drop)]
+#[derive(Clone, Copy)]
 pub enum ResumedEngine {
     Is(ConnectionEngine),
     Broken,
 }
 
-#[derive(Drop)]
+#[derive(Clone, Copy)]
 pub struct OpeningSent {
     pub answer: Written,
     pub engine: ConnectionEngine,
 }
 
-#[derive(Drop)]
+#[derive(Clone, Copy)]
 pub struct OpeningReceived {
     pub answer: HeaderAnswer,
     pub engine: ConnectionEngine,
 }
 
-#[derive(Drop)]
+#[derive(Clone, Copy)]
 pub struct OnAllocate {
     pub running: Running,
     pub answer: AllocateAnswer,
     pub engine: ConnectionEngine,
 }
 
-#[derive(Drop)]
+#[derive(Clone, Copy)]
 pub struct OnDeallocate {
     pub running: Running,
     pub answer: DeallocateAnswer,
     pub engine: ConnectionEngine,
 }
 
-#[derive(Drop)]
+#[derive(Clone, Copy)]
 pub struct OnHeartbeat {
     pub running: Running,
     pub answer: TickAnswer,
@@ -108,7 +108,7 @@ pub struct OnHeartbeat {
 }
 
 // A frame that went out, or did not.
-#[derive(Drop)]
+#[derive(Clone, Copy)]
 pub struct OnOutgoing {
     pub running: Running,
     pub written: usize,
@@ -117,7 +117,7 @@ pub struct OnOutgoing {
 }
 
 // A frame that came: what became of it, and how many bytes were consumed and written.
-#[derive(Drop)]
+#[derive(Clone, Copy)]
 pub struct OnIncoming {
     pub running: Running,
     pub consumed: usize,
@@ -127,7 +127,7 @@ pub struct OnIncoming {
 }
 
 // What the error path did.
-#[derive(Drop)]
+#[derive(Clone, Copy)]
 pub struct OnError {
     pub running: Running,
     pub written: usize,
@@ -135,7 +135,7 @@ pub struct OnError {
 }
 
 // Where an event leaves the engine, and how many bytes it wrote.
-#[derive(Drop)]
+#[derive(Clone, Copy)]
 struct Landed {
     phase: Phase,
     written: usize,
@@ -143,7 +143,7 @@ struct Landed {
 }
 
 // What came of frames that were sent one after the other: the last answer, and how many bytes were written in all.
-#[derive(Drop)]
+#[derive(Clone, Copy)]
 struct Trailed {
     answer: Written,
     written: usize,

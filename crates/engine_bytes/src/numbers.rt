@@ -14,21 +14,21 @@ use frame_encoder::IdleTimeOut;
 use octets::copy;
 
 // A role that was read by its number, or that none has it.
-#[derive(Drop)]
+#[derive(Clone, Copy)]
 pub(crate) enum RoleRead {
     Is(Role),
     Unknown,
 }
 
 // An outcome that was read by its number, or that none has it.
-#[derive(Drop)]
+#[derive(Clone, Copy)]
 pub(crate) enum OutcomeRead {
     Is(Outcome),
     Unknown,
 }
 
 // A phase that was read from two bytes, or that none has them.
-#[derive(Drop)]
+#[derive(Clone, Copy)]
 pub(crate) enum PhaseRead {
     Is(Phase),
     Unknown,

@@ -31,7 +31,7 @@ const ANY_CHANNEL: u16 = 65535;
 
 // What reading a frame answers: the number of its refusal, a frame that has no body, or one that has a performative. It takes `size` bytes, its body
 // starts at `from`, and the performative ends `end` bytes after that.
-#[derive(Drop)]
+#[derive(Clone, Copy)]
 pub enum Frame {
     Refused(u8),
     Empty {
@@ -49,14 +49,14 @@ pub enum Frame {
 }
 
 // How many frames there are, or the refusal of the first that is refused.
-#[derive(Drop)]
+#[derive(Clone, Copy)]
 pub enum Frames {
     Are(usize),
     Refused(u8),
 }
 
 // What a frame's header says, or the refusal of the frame.
-#[derive(Drop)]
+#[derive(Clone, Copy)]
 enum Header {
     Refused(u8),
     Is { size: usize, channel: u16 },

@@ -25,7 +25,7 @@ ghost use Rattle.frame_encoder.specs.Frames.{
 use octets::Written;
 use serializer::Text;
 
-#[derive(Drop)]
+#[derive(Clone, Copy)]
 pub enum IdleTimeOut {
     Never,
     Millis(u32),
@@ -36,7 +36,7 @@ pub const MIN_MAX_FRAME_SIZE: u32 = 512;
 pub const MAX_FRAME_SIZE: u32 = 16384;
 
 // How many fields are left when trailing nulls are dropped, and how many bytes they take.
-#[derive(Drop)]
+#[derive(Clone, Copy)]
 struct Fields {
     count: u8,
     size: u32,

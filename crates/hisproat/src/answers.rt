@@ -47,7 +47,7 @@ const KIND_FREED: u8 = 12;
 const BEGIN: u8 = 17;
 
 // What the call inside answered, in numbers. What a kind does not have is zero.
-#[derive(Drop)]
+#[derive(Clone, Copy)]
 pub struct Inner {
     kind: u8,
     detail: u8,
@@ -58,7 +58,7 @@ pub struct Inner {
 }
 
 // What came of an event, besides the engine.
-#[derive(Drop)]
+#[derive(Clone, Copy)]
 pub struct Done {
     running: Running,
     consumed: usize,

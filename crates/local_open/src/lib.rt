@@ -10,7 +10,7 @@ ghost use Rattle.local_open.specs.Settings.{open_says, new_says, checked};
 use frame_encoder::IdleTimeOut;
 use octets::Written;
 
-#[derive(Drop)]
+#[derive(Clone, Copy)]
 pub struct LocalOpen {
     max_frame_size: u32,
     channel_max: u16,
@@ -18,7 +18,7 @@ pub struct LocalOpen {
 }
 
 // Settings that were taken, or the number of their refusal.
-#[derive(Drop)]
+#[derive(Clone, Copy)]
 pub enum NewOpen {
     Taken(LocalOpen),
     Refused(u8),

@@ -9,14 +9,14 @@ use crate::Described;
 use values::Value;
 
 // A list at the front of bytes: how many values it says it has, and from where to where they lie.
-#[derive(Drop)]
+#[derive(Clone, Copy)]
 enum Items {
     List { count: u32, from: usize, end: usize },
     Malformed,
 }
 
 // A descriptor at the front of bytes: its number, and where it ends.
-#[derive(Drop)]
+#[derive(Clone, Copy)]
 enum Descriptor {
     Ulong { code: u64, end: usize },
     Malformed,

@@ -130,7 +130,7 @@ fn suits(f: &[u8], letter: u64) -> bool
 }
 
 // Where the last of the values begins that may stand in the fields of a performative (0 where there is none).
-#[derive(Drop)]
+#[derive(Clone, Copy)]
 pub(crate) enum Fitting {
     Fit { last: usize },
     Unfit,

@@ -20,7 +20,7 @@ use fields::{Fitting, fields, row_named, rows_of};
 use values_of::{is_null, item, next, number_in, skip};
 
 // The type of a field. The value of an `Any` field is not looked into.
-#[derive(Drop)]
+#[derive(Clone, Copy)]
 pub enum FieldType {
     Any,
     UShort,
@@ -30,14 +30,14 @@ pub enum FieldType {
 }
 
 // What null in a field stands for.
-#[derive(Drop)]
+#[derive(Clone, Copy)]
 pub enum Default {
     Null,
     Number(u32),
 }
 
 // What the table says of a field; past the last field of a performative, and where there is no such performative, nothing.
-#[derive(Drop)]
+#[derive(Clone, Copy)]
 pub enum Row {
     Field {
         kind: FieldType,
@@ -48,7 +48,7 @@ pub enum Row {
 }
 
 // A descriptor and a list.
-#[derive(Drop)]
+#[derive(Clone, Copy)]
 pub enum Described {
     List {
         code: u64,
@@ -59,21 +59,21 @@ pub enum Described {
     Malformed,
 }
 
-#[derive(Drop)]
+#[derive(Clone, Copy)]
 pub enum RemoteChannel {
     Absent,
     Is(u16),
 }
 
 // The condition of an error: where its text begins in the body, and how long it is.
-#[derive(Drop)]
+#[derive(Clone, Copy)]
 pub enum Condition {
     Absent,
     At { from: usize, len: usize },
 }
 
 // An idle-time-out of zero is none.
-#[derive(Drop)]
+#[derive(Clone, Copy)]
 pub enum Performative {
     Open {
         max_frame_size: u32,
@@ -91,7 +91,7 @@ pub enum Performative {
 }
 
 // A performative, and where it ends in the body.
-#[derive(Drop)]
+#[derive(Clone, Copy)]
 pub enum Body {
     Is {
         performative: Performative,

@@ -15,7 +15,7 @@ const PROTOCOL_HEADER_PREFIX: [u8; 4] = [0x41, 0x4D, 0x51, 0x50];
 const OUTPUT_ROOM: usize = 16384;
 
 // Protocol ID
-#[derive(Drop)]
+#[derive(Clone, Copy)]
 pub enum ProtocolId {
     Amqp,
     Tls,
@@ -23,7 +23,7 @@ pub enum ProtocolId {
 }
 
 // Protocol header
-#[derive(Drop)]
+#[derive(Clone, Copy)]
 pub struct ProtocolHeader {
     pub id: ProtocolId,
     pub major: u8,
@@ -32,14 +32,14 @@ pub struct ProtocolHeader {
 }
 
 // The protocol id that a number is.
-#[derive(Drop)]
+#[derive(Clone, Copy)]
 pub enum IdRead {
     Id(ProtocolId),
     Unknown,
 }
 
 // What bytes are as a header: that of AMQP 1.0.0, that of another protocol or version, none, or fewer bytes than one has.
-#[derive(Drop)]
+#[derive(Clone, Copy)]
 pub enum HeaderRead {
     Amqp,
     Other(ProtocolHeader),

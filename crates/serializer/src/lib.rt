@@ -7,7 +7,7 @@ ghost use Rattle.octets.specs.Octets.{put};
 ghost use Rattle.serializer.specs.Written.{uint, ushort, text, composite_header};
 ghost use Rattle.serializer.specs.Answers.{code_of};
 
-#[derive(Drop)]
+#[derive(Clone, Copy)]
 pub enum Text {
     String,
     Symbol,

@@ -12,14 +12,14 @@ use serializer::Text;
 use values::Value;
 
 // What is kept of the values after an error's condition.
-#[derive(Drop)]
+#[derive(Clone, Copy)]
 enum Others {
     Fields(Kept),
     Malformed,
 }
 
 // An error's condition lies from `from` to `end`; of the values after it, `count` are kept, which take `len` bytes.
-#[derive(Drop)]
+#[derive(Clone, Copy)]
 enum ErrorParts {
     Parts {
         from: usize,

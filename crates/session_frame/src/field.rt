@@ -11,14 +11,14 @@ use performatives::{Default, FieldType};
 use serializer::Text;
 
 // How many bytes a field takes, and whether it is null.
-#[derive(Drop)]
+#[derive(Clone, Copy)]
 pub(crate) struct Size {
     pub(crate) len: usize,
     pub(crate) null: bool,
 }
 
 // How many fields are left without the trailing nulls, and how many bytes they take.
-#[derive(Drop)]
+#[derive(Clone, Copy)]
 pub(crate) struct Kept {
     pub(crate) count: usize,
     pub(crate) len: usize,

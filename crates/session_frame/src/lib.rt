@@ -161,7 +161,7 @@ fn trim_all(s: &[u8], code: u64, count: u32) -> Kept
 // ---- a frame
 
 // A performative: its descriptor, its fields and where they lie, how many of them are kept, and how many bytes these take.
-#[derive(Drop)]
+#[derive(Clone, Copy)]
 struct Plan {
     code: u64,
     count: u32,

@@ -7,7 +7,7 @@ ghost use Rattle.values.specs.Answers.{code_said};
 
 // What stands after a format code. A fixed one has the code itself, from which its width follows. The bool says whether sizes and counts have four
 // bytes, and not one.
-#[derive(Drop)]
+#[derive(Clone, Copy)]
 pub(crate) enum Kind {
     Fixed(u8),
     Boolean,
@@ -17,7 +17,7 @@ pub(crate) enum Kind {
     Array(bool),
 }
 
-#[derive(Drop)]
+#[derive(Clone, Copy)]
 pub(crate) enum Code {
     Known(Kind),
     Unknown,

@@ -29,7 +29,7 @@ use format_code::{Code, Kind, code_of, fixed_width, is_known, is_plain};
 pub const DEPTH: u8 = 16;
 
 // Where a value ends: the number of bytes that it takes.
-#[derive(Drop)]
+#[derive(Clone, Copy)]
 pub enum Value {
     End(usize),
     Malformed,
