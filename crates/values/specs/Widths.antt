@@ -2,7 +2,7 @@
 -- Assumes nothing: these are definitions.
 use Rattle.std.specs.Prelude.{ℕ, ◌-◌, ◌/◌, ◌^◌, cond, ltb}
 use Rattle.std.proofs.Math.Option.{Option, none, some}
-use Rattle.values.specs.Value.{Shape, Kind, fixed, boolean, variable, compound}
+use Rattle.values.specs.Value.{Kind, fixed, boolean, variable, compound}
 
 -- no byte for 4, and below it there is no code; for 5 to 9, two to the power of the half less 5
 unfoldable pub fixed_width : ℕ → ℕ

@@ -1,7 +1,5 @@
 -- `booleans_end`: what is left after i turns (`left`).
 -- Assumes nothing.
-use mathlib.Core.Path.{◌≡◌}
-use Prim.Native.Nat.{◌-◌}
 use borrow.Author.Rules.{rules}
 use Rattle.values.proofs.Turns.{turn_first, turn_stop, turn_more, turn_last}
 use Rattle.values.proofs.booleans_end.Goals as goal
