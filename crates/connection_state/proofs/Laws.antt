@@ -7,8 +7,8 @@ use Prim.Native.Nat.{ℕ}
 use types.Run.{OneOf, miss}
 use denote.Enum.Declared.{tag_of}
 use mir.Val.{has_key}
-use lib.Dec.{T, eqb}
-use Rattle.octets.specs.Verdict.{Verdict, refuse, accept}
+use lib.Dec.{T}
+use Rattle.octets.specs.Verdict.{refuse, accept}
 use Rattle.connection_state.specs.States.{State, numbered, is, is_one_of, Move, ◌⇒◌, along}
 use Rattle.connection_state.proofs.States.{states, is_state}
 use Rattle.connection_state.specs.declared.ConnectionState.{ConnectionState}
