@@ -17,7 +17,7 @@ use Rattle.performatives.specs.declared.Described.TheVariants.{List as IsDescrib
 use Rattle.performatives.specs.declared.fields.Fitting.{Fitting}
 use Rattle.performatives.specs.declared.fields.Fitting.TheVariants.{Fit, Unfit}
 use Rattle.performatives.specs.Fields.{UShort, UInt, Error, Field, may, defaults, fields_in, fields_of, field_in, field_of, field_at}
-use Rattle.performatives.specs.Performative.{number_of, Described, described, split, fit, fits, fields_by, rows_for, Performative, performative_by, performative, when_not, condition_at, condition, remote_channel, Said, said, values_in, values_of, performative_said}
+use Rattle.performatives.specs.Performative.{number_of, described, split, fit, fits, fields_by, rows_for, performative_by, performative, when_not, condition_at, condition, remote_channel, Said, said, values_in, values_of, performative_said}
 use Rattle.performatives.specs.Answers.{described_says, performative_says}
 use Rattle.performatives.specs.Inner.{rows_in, rows_from, skip, value_at, fitting_says, last_of, open_says}
 use Rattle.performatives.proofs.Rows.{at_few}

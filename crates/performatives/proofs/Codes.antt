@@ -27,8 +27,8 @@ From codes s i = starts_with codes s ≡ is_in (drop i codes) (get_or s 0 0)
 
 pub from_first : (codes s : List ℕ) → (length s ≡ 0 → ⊥) → From codes s 0
 unfolding starts_with
-from_first codes [] h = absurd (h refl)
-from_first codes (c ∷ s) h = refl
+from_first ds [] h = absurd (h refl)
+from_first ds (c ∷ s) h = refl
 
 module _ (codes s : List ℕ) where
   module _ (i : ℕ) (inv : From codes s i) where

@@ -24,7 +24,7 @@ use Rattle.performatives.specs.declared.composite.Descriptor as D
 use Rattle.performatives.specs.declared.composite.Descriptor.TheVariants.{Ulong, Malformed as NoUlong}
 use Rattle.performatives.specs.Inner.{items_says, descriptor_says}
 use Rattle.performatives.proofs.Bounds.{list_lies, descriptor_lies}
-use Rattle.performatives.specs.Performative.{Items, number_of, list_at, descriptor, described}
+use Rattle.performatives.specs.Performative.{number_of, list_at, descriptor, described}
 use Rattle.performatives.proofs.Parts.{drop_take}
 use Rattle.performatives.proofs.Codes.{starts_some, ulong_ends}
 

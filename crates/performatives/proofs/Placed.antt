@@ -17,7 +17,7 @@ use Rattle.values.proofs.Laws.{value_within, value_local}
 use Rattle.performatives.specs.declared.Described as D
 use Rattle.performatives.specs.declared.Described.TheVariants.{List as IsDescribed, Malformed as NotDescribed}
 use Rattle.performatives.specs.Fields.{Error}
-use Rattle.performatives.specs.Performative.{Described, described, is_error, has_type, fits, when_not, text_at, condition_at}
+use Rattle.performatives.specs.Performative.{described, is_error, has_type, fits, when_not, text_at, condition_at}
 use Rattle.performatives.specs.Answers.{described_says}
 use Rattle.performatives.specs.Inner.{after_or, next, skip, item, or_null, value_at, text_from}
 use Rattle.performatives.proofs.Lists.{part_is}

@@ -109,7 +109,7 @@ at_many (r ∷ rows) (suc c) s h = go (value_end 16 s) refl (λ n. at_many rows 
   where
     go : (v : Verdict ℕ) → value_end 16 s ≡ v → ((n : ℕ) → false ≡ accepts (fields_by rows c (drop n s))) → false ≡ accepts (fields_by (r ∷ rows) (suc c) s)
     go (refuse k) e more = at_malformed (r ∷ rows) c s k e
-    go (accept n) e more = sym (step r rows c s n e ∙ rw (← more n) (and_false (fits r.type r.mandatory (take n s))))
+    go (accept n) e more = sym (step r rows c s n e ∙ rw (← more n) (and-false (fits r.type r.mandatory (take n s))))
 
 pub at_few : (rows : List Field) (c : ℕ) (s : List ℕ) → accepts (fields_by rows c s) ≡ true → c ≤ length rows
 at_few rows c s e = go (leb c (length rows)) refl
@@ -225,7 +225,7 @@ module _ (code count i at : ℕ) (s : List ℕ) (inv : Left code count s i at) w
         inv ∙ rw (e, z) (at_last (rows_from code count) (drop at s) ∙ rw (w.least count))
 
     pub fields_least : count < word / 2 ^ 56 → false ≡ accepts (fields_by (rows_from code 0) count s)
-    fields_least h = sym (last ∙ rw (lt-leb (word / 2 ^ 56) count h) (and_false (eqb (length (drop at s)) 0)))
+    fields_least h = sym (last ∙ rw (lt-leb (word / 2 ^ 56) count h) (and-false (eqb (length (drop at s)) 0)))
 
     pub fields_over : at ≤ length s → (at ≡ length s → ⊥) → false ≡ accepts (fields_by (rows_from code 0) count s)
     fields_over a z = sym (last ∙ rw (ne_eqb (length (drop at s)) 0 (λ q. z (omega (arith, length-drop at s)))))

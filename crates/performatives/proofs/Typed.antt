@@ -13,7 +13,7 @@ use Rattle.performatives.specs.declared.FieldType as C
 use Rattle.performatives.specs.declared.Described as D
 use Rattle.performatives.specs.declared.Described.TheVariants.{List as IsDescribed, Malformed as NotDescribed}
 use Rattle.performatives.specs.Answers.{type_says, described_says}
-use Rattle.performatives.specs.Performative.{Described, described, error_shape, is_error, has_type, fits}
+use Rattle.performatives.specs.Performative.{described, error_shape, is_error, has_type, fits}
 use Rattle.performatives.proofs.Bounds.{described_lies}
 
 module _ (f : List ℕ) (v : D.Described) (p : described_says v ≡ described f) where
