@@ -1,6 +1,6 @@
 -- Making and ending a tie keeps ties and lists in agreement.
 -- Assumes nothing.
-use mathlib.Core.Path.{◌≡◌, refl, sym, ◌∙◌, ap}
+use mathlib.Core.Path.{◌≡◌, refl, sym, ◌∙◌, ap, subst}
 use mathlib.Core.List.{List, [], ◌∷◌}
 use Prim.Native.Nat.{ℕ, suc, ◌+◌, ◌≤◌, ◌<◌}
 use native.Mathlib.Numerals.{add-one}
@@ -57,11 +57,12 @@ module _ (n : ℕ) (s : List ℕ) (lists : Lists) (cov : Covers n s) (a : Marked
       let one-z : 1 ≤ count z parts.front = omega (arith, ap (count z) e, count_same z f) in (
         x.0,
         out_next n s k ch cov z x.0 (listed_low z (omega (arith, counts z))),
-        rw (out_previous_other n s k ch z (λ q. omega (arith, next_in_is z q, few z, more z)), out_first_other n s k ch ch (λ q w. omega (arith, x.0)))
+        rw (out_previous_other n s k ch z (λ q. omega (arith, next_in_is z q, few z, more z)))
+            (subst (λ (h : ℕ). Left s' h (field s z 6) (suc z) f) (sym (out_first_other n s k ch ch (λ q w. omega (arith, x.0))))
             (same_left s s' (field s ch 2) (field s z 6) (suc z) f (λ m h. (
               out_next_other n s k ch m (λ q. let w : z ≡ m = omega (arith, x.0) in omega (arith, few z, ap (count z) e, count_same z f, ap (λ y. count y f) w)),
               out_previous_other n s k ch m (λ q. omega (arith, next_in_is m q, few m, more m, ap (count m) e)),
-            )) x.2),
+            )) x.2)),
       )
 
   new_right : (b : List ℕ) → b ≡ parts.back → Linked s (suc k) (field s k 5) b → Linked s' (field s k 6) (field s k 5) b

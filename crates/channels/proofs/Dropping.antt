@@ -17,7 +17,6 @@ use Rattle.channels.specs.Lists.{Lists, Linked, ties_says, Listed, TiedAs, Drops
 use Rattle.channels.specs.Links.{Unmarked, DropsFrom}
 use Rattle.channels.proofs.Fields.{length_write, field_same, field_beside, field_apart, past_write}
 use Rattle.channels.proofs.Kept.{numbers_same, covers_kept}
-use Rattle.channels.proofs.Limits.{apart}
 use Rattle.channels.proofs.Lists.{count_same, count_other, with_list, with_same, with_other, same_right}
 use Rattle.channels.proofs.Marks.{says_none, says_some, says_same, Marked, agrees, once}
 use Rattle.channels.proofs.Tying.{Wide, listed_marks, is_place, place_low, place_covered, no_place}

@@ -62,8 +62,8 @@ module _ (self : OutgoingChannels) (s : List ℕ) where
     nothing_taken o = shared_at false o
 
     -- where a number is taken, the peer's Open has come
-    pub is_open_lem : (k h : ℕ) → taken_says self s k ≡ some h → self.opened ≡ true
-    is_open_lem k h e = go self.opened refl
+    pub is_open : (k h : ℕ) → taken_says self s k ≡ some h → self.opened ≡ true
+    is_open k h e = go self.opened refl
       where
         go : (b : Bool) → self.opened ≡ b → self.opened ≡ true
         go true o = o
@@ -71,7 +71,7 @@ module _ (self : OutgoingChannels) (s : List ℕ) where
 
     -- a taken number is at most the agreed channel-max, and was handed out
     pub taken_low : (k h : ℕ) → taken_says self s k ≡ some h → k ≤ self.highest
-    taken_low k h e = once_taken self.highest (free self s) (taken_says self s) k h (once (is_open_lem k h e)) e
+    taken_low k h e = once_taken self.highest (free self s) (taken_says self s) k h (once (is_open k h e)) e
 
     pub taken_used : (k h : ℕ) → taken_says self s k ≡ some h → k < self.used
     taken_used k h e = elim (dec_le self.used k) [

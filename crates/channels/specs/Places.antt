@@ -2,7 +2,7 @@
 -- Of an outgoing channel: field 0, its link, 1, its handle, and 2, the first incoming channel that is tied through it. Of an incoming channel: 3, the outgoing channel through which it
 -- is tied, 4, the handle, and 5 and 6, the next and the previous channel in the list of the outgoing one. Fields 2, 3, 5 and 6 have a channel as one more than its number, and 0 for none.
 -- Assumes nothing: these are definitions.
-use Rattle.std.specs.Prelude.{◌≡◌, Bool, cond, List, ℕ, suc, ◌+◌, ◌*◌, ◌/◌, ◌%◌, ◌≤◌, ◌<◌, leb, ltb, length, get_or, set, drop}
+use Rattle.std.specs.Prelude.{◌≡◌, Bool, cond, List, ℕ, ◌+◌, ◌*◌, ◌/◌, ◌%◌, ◌≤◌, ◌<◌, leb, ltb, length, get_or, set, drop}
 
 -- the i-th number
 unfoldable pub word : List ℕ → ℕ → ℕ
