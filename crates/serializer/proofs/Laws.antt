@@ -1,18 +1,17 @@
 -- The written form of values: how long each is, and how it comes about by writes one after the other.
 -- Assumes nothing.
-use mathlib.Core.Path.{◌≡◌, refl, sym, ap, ◌∙◌}
+use mathlib.Core.Path.{◌≡◌, refl, ap, ◌∙◌}
 use mathlib.Core.Bool.{Bool, true, false}
-use mathlib.Core.List.{List, [], ◌∷◌, ◌++◌, append_assoc}
-use Prim.Native.Nat.{ℕ, zero, suc, ◌+◌, ◌*◌, ◌-◌, ◌/◌, ◌%◌, ◌^◌, ◌<◌, ◌≤◌}
-use native.Mathlib.Nat.{add_assoc}
+use mathlib.Core.List.{List, [], ◌∷◌, ◌++◌}
+use Prim.Native.Nat.{ℕ, ◌+◌, ◌*◌, ◌-◌, ◌/◌, ◌%◌, ◌<◌, ◌≤◌}
 use native.Mathlib.Omega.{arith}
 use lib.ListN.{length, length-append}
 use lib.Dec.{leb, eqb}
-use mir.Syntax.{w8, w16, w32, w64}
+use mir.Syntax.{w8, w16, w32}
 use mir.Val.{Fits}
 use borrow.Author.Tests.{le-leb, lt-leb, eq-eqb, ne_eqb}
 use Rattle.octets.specs.Octets.{bytes_of, put}
-use Rattle.octets.proofs.Laws.{length_bytes_of, length_put, put_put, put_over}
+use Rattle.octets.proofs.Laws.{length_bytes_of, put_put, put_over}
 use Rattle.serializer.specs.declared.Text.{Text}
 use Rattle.serializer.specs.declared.Text.TheVariants.{String, Symbol}
 use Rattle.serializer.specs.Answers.{code_of}

@@ -1,0 +1,17 @@
+-- `composite_header_len`: by the three forms of a list.
+-- Assumes nothing.
+use native.Mathlib.Omega.{arith}
+use borrow.Author.Rules.{rules}
+use Rattle.serializer.proofs.Laws.{header_len_none, header_len_small, header_len_large}
+use Rattle.serializer.proofs.composite_header_len.Goals as goal
+
+ruleset steps = (header_len_none, header_len_small, header_len_large, rules)
+
+pub returns-then-count-eq0 : goal.returns-then-count-eq0
+returns-then-count-eq0 c = (search steps, omega arith)
+
+pub returns-then-size-le254 : goal.returns-then-size-le254
+returns-then-size-le254 c = (search steps, omega arith)
+
+pub returns : goal.returns
+returns c = (search steps, omega arith)
