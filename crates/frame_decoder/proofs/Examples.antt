@@ -3,7 +3,7 @@
 use mathlib.Core.Path.{◌≡◌, refl}
 use Prim.Native.Nat.{ℕ}
 use mathlib.Core.List.{List, [], ◌∷◌, ◌++◌}
-use mathlib.Core.Option.{none, some}
+use mathlib.Core.Option.{none}
 use Rattle.octets.specs.Verdict.{refuse, accept, require, and_then}
 use Rattle.octets.specs.Octets.{big_endian, big_endian_from, starts_with}
 use Rattle.values.specs.Value.{plus, times, followed_by, codes, kind_in, kind_of, bytes, number_in, boolean_end, variable_end, paired_in, opening, items, compound_end, body, after_code, level, run, value_end}

@@ -34,7 +34,6 @@ use Rattle.frame_decoder.specs.declared.Frame as F
 use Rattle.frame_decoder.specs.declared.Frame.TheVariants.{Refused, Empty, Body}
 use Rattle.frame_decoder.specs.Frame.{Frame, size_of, channel_of, frame, body_in, body_by, any_size, any_channel, body_of, FrameSaid, holding, content, said_of, read_frame, is_session, within, begins_for, session_performative, session_frame, session_said, session_frames}
 use Rattle.frame_decoder.specs.Answers.{ending_at, header_says, refusal_in, may_send, begins_within, frame_says, frame_answer, session_answer, session_body}
-use Rattle.frame_decoder.specs.contracts.Frame.{the_type as frame-type}
 use Rattle.frame_decoder.proofs.Laws.{frame_was, body_length, session_frame_lem, sessions_none, sessions_refused, sessions_first}
 
 apart : {A : Type 0} → ◌≡◌ {A = ℕ} 0 1 → A
@@ -348,14 +347,14 @@ unfolding and_then
 said_not (refuse j) k e = cc
 said_not (accept r) k e = apart (cc)
 
-stopped : (highest : ℕ) (s : List ℕ) (k : ℕ) (f : F.Frame) → frame_says f ≡ session_answer highest s → k ≡ refusal_in (frame_says f) → OneOf (0 ∷ 1 ∷ []) (tag_of frame-type f) → session_frame highest s ≡ refuse k
+stopped : (highest : ℕ) (s : List ℕ) (k : ℕ) (f : F.Frame) → frame_says f ≡ session_answer highest s → k ≡ refusal_in (frame_says f) → ((c z b : ℕ) (p : P.Performative) (n : ℕ) → f ≡ Body c z b p n → ⊥) → session_frame highest s ≡ refuse k
 unfolding session_answer
 stopped highest s k (Refused j) e q o = said_not _ k (sym e ∙ ap refuse (sym q))
 stopped highest s k (Empty c z b) e q o =
     let a = said_body _ _ (sym e) in
     let w : ◌≡◌ {A = Option Said} (some (said a.0.1)) none = ap (λ (x : FrameSaid). x.content) a.2 in
     apart (cc)
-stopped highest s k (Body c z b p n) e q o = absurd (miss (0 ∷ 1 ∷ []) 2 tt o)
+stopped highest s k (Body c z b p n) e q o = absurd (o c z b p n refl)
 
 -- a part to the end
 tail : (s : List ℕ) (a : ℕ) → take (length s - a) (drop a s) ≡ drop a s
@@ -368,7 +367,7 @@ module _ (highest : ℕ) (s : List ℕ) (at count : ℕ) (i : Counted highest s 
   rest_answers : frame_says f ≡ session_answer highest (drop at s)
   rest_answers = e ∙ ap (session_answer highest) (tail s at)
 
-  pub frames_stop : (k : ℕ) → k ≡ refusal_in (frame_says f) → OneOf (0 ∷ 1 ∷ []) (tag_of frame-type f) → refuse k ≡ session_frames highest s
+  pub frames_stop : (k : ℕ) → k ≡ refusal_in (frame_says f) → ((c z b : ℕ) (p : P.Performative) (n : ℕ) → f ≡ Body c z b p n → ⊥) → refuse k ≡ session_frames highest s
   unfolding and_then
   frames_stop k q o = sym (i.2 ∙ rw (sessions_refused highest (drop at s) some_left k (stopped highest (drop at s) k f rest_answers q o)))
 
