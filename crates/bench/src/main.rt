@@ -20,15 +20,15 @@ mod frames;
 mod setting;
 
 use engine::{ConnectionEngine, NewEngine};
-use libc::STDOUT_FILENO;
+use std::io::{self, Read};
 use words::{decimal, find, part, word};
 
-fn print(text: &[u8]) {
-    io::write_all(STDOUT_FILENO, text);
+fn print(rt: &impl Print, text: &[u8]) -> io::Result<()> {
+    rt.write_all(text)
 }
 
-fn print_number(n: u64) {
-    io::print_decimal(STDOUT_FILENO, n);
+fn print_number(rt: &impl Print, n: u64) -> io::Result<()> {
+    rt.print(n)
 }
 
 // The last channel, where there are n sessions.
@@ -112,31 +112,32 @@ fn run(line: &[u8], last: u16, rounds: u64, tables: &mut [u8], out: &mut [u8]) -
     run_events(fresh, letter, last, rounds, tables, out)
 }
 
-fn run_line(line: &[u8], tables: &mut [u8], out: &mut [u8]) {
+fn run_line(rt: &impl Print, line: &[u8], tables: &mut [u8], out: &mut [u8]) -> io::Result<()> {
     let last = last_channel(decimal(word(line, 2)));
     let sum = run(line, last, decimal(word(line, 3)), tables, out);
-    print(line);
-    print(b": ");
-    print_number(sum);
-    print(b"\n");
+    print(rt, line)?;
+    print(rt, b": ")?;
+    print_number(rt, sum)?;
+    print(rt, b"\n")
 }
 
-fn run_lines(text: &[u8], tables: &mut [u8], out: &mut [u8]) {
+fn run_lines(rt: &impl Print, text: &[u8], tables: &mut [u8], out: &mut [u8]) -> io::Result<()> {
     let mut at: usize = 0;
     while at < text.len() {
         let end = find(text, at, b'\n');
-        run_line(part(text, at, end), tables, out);
+        run_line(rt, part(text, at, end), tables, out)?;
         if text.len() <= end {
-            return;
+            return Ok(());
         }
         at = end + 1;
     }
+    Ok(())
 }
 
-fn main() {
-    let mut text = io::buffer();
-    let n = io::read_full(0, &mut text);
-    let mut tables = io::large_buffer();
-    let mut out = io::large_buffer();
-    run_lines(part(&text, 0, n), &mut tables, &mut out);
+fn main(rt: HostRuntime) -> io::Result<()> {
+    let mut text = [0u8; 4096];
+    let n = io::copy(&mut rt.stdin().take(4096), &mut &mut text[..])? as usize;
+    let mut tables = [0u8; 65536];
+    let mut out = [0u8; 65536];
+    run_lines(&rt, part(&text, 0, n), &mut tables, &mut out)
 }

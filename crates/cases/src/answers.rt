@@ -1,10 +1,10 @@
 // Answers as words: a number stands for itself, and any other word for its letters, the first eight of them, after a bit that no number has.
 use crate::spelling::is_number;
 use frame_decoder::{Frame, Frames};
-use libc::STDOUT_FILENO;
 use octets::Written;
 use performatives::{Body, Condition, Performative, RemoteChannel};
 use protocol_header::{HeaderRead, ProtocolHeader};
+use std::io;
 use values::Value;
 use words::{decimal, part, skip, word};
 
@@ -276,37 +276,43 @@ fn untouched(out: &[u8], from: usize) -> bool {
     true
 }
 
-fn print_byte(b: u8) {
-    io::print_hex(STDOUT_FILENO, b as u64, 2);
+fn print_byte(rt: &impl Print, b: u8) -> io::Result<()> {
+    print!(rt; "{b:02x}")
 }
 
-fn print_bytes(s: &[u8]) {
+fn print_bytes(rt: &impl Print, s: &[u8]) -> io::Result<()> {
     let mut i: usize = 0;
     while i < s.len() {
-        print_byte(s[i]);
+        print_byte(rt, s[i])?;
         i += 1;
     }
-    io::write_all(STDOUT_FILENO, b"\n");
+    rt.write_all(b"\n")
 }
 
 // What was written to an output that held the pattern. `wanted` has `wrote` and the bytes that should be there, in words and as they are.
-pub(crate) fn written(w: Written, out: &[u8], wanted: &[u8], bytes: &[u8]) -> Answer {
+pub(crate) fn written(
+    rt: &impl Print,
+    w: Written,
+    out: &[u8],
+    wanted: &[u8],
+    bytes: &[u8],
+) -> io::Result<Answer> {
     match w {
         Written::Bytes(n) => {
             if !untouched(out, n) {
-                return two(TOUCHED, n as u64);
+                return Ok(two(TOUCHED, n as u64));
             }
-            if check::same(part(out, 0, n), bytes) {
-                return two(WROTE, meant(word(wanted, 1)));
+            if part(out, 0, n) == bytes {
+                return Ok(two(WROTE, meant(word(wanted, 1))));
             }
-            print_bytes(part(out, 0, n));
-            two(DIFFERS, n as u64)
+            print_bytes(rt, part(out, 0, n))?;
+            Ok(two(DIFFERS, n as u64))
         }
         Written::Refused(k) => {
             if !untouched(out, 0) {
-                return two(TOUCHED, k as u64);
+                return Ok(two(TOUCHED, k as u64));
             }
-            two(REFUSED, k as u64)
+            Ok(two(REFUSED, k as u64))
         }
     }
 }
@@ -336,28 +342,28 @@ pub(crate) fn agrees(a: &Answer, wanted: &[u8]) -> bool {
     word(wanted, n).len() == 0
 }
 
-fn print_letters(w: u64) {
+fn print_letters(rt: &impl Print, w: u64) -> io::Result<()> {
     let mut letters = [0u8; 8];
     octets::put_number(&mut letters, 0, 8, w);
-    io::write_all(STDOUT_FILENO, part(&letters, skip(&letters, 0, 0), 8));
+    rt.write_all(part(&letters, skip(&letters, 0, 0), 8))
 }
 
-fn print_word(w: u64) {
+fn print_word(rt: &impl Print, w: u64) -> io::Result<()> {
     if w == NO {
-        return;
+        return Ok(());
     }
-    io::write_all(STDOUT_FILENO, b" ");
+    rt.write_all(b" ")?;
     if w < LETTERS {
-        io::print_decimal(STDOUT_FILENO, w);
-        return;
+        return rt.print(w);
     }
-    print_letters(w - LETTERS);
+    print_letters(rt, w - LETTERS)
 }
 
-pub(crate) fn print(a: &Answer) {
+pub(crate) fn print(rt: &impl Print, a: &Answer) -> io::Result<()> {
     let mut i: usize = 0;
     while i < 10 {
-        print_word(a[i]);
+        print_word(rt, a[i])?;
         i += 1;
     }
+    Ok(())
 }

@@ -28,7 +28,7 @@ mod spelling;
 
 ghost use Rattle.std.specs.Prelude.{◌≡◌, length};
 
-use libc::STDOUT_FILENO;
+use std::io::{self, Read};
 use words::{find, part};
 
 // What became of a line.
@@ -63,12 +63,12 @@ fn counted(t: Tally, o: Outcome) -> Tally {
     }
 }
 
-fn print(text: &[u8]) {
-    io::write_all(STDOUT_FILENO, text);
+fn print(rt: &impl Print, text: &[u8]) -> io::Result<()> {
+    rt.write_all(text)
 }
 
-fn print_number(n: u64) {
-    io::print_decimal(STDOUT_FILENO, n);
+fn print_number(rt: &impl Print, n: u64) -> io::Result<()> {
+    rt.print(n)
 }
 
 // The place after the first b; the end where there is none.
@@ -81,34 +81,34 @@ fn after(s: &[u8], b: u8) -> usize {
 }
 
 // Runs the case of a line, with its bytes spelled out.
-fn judge(line: &[u8], number: u64) -> Outcome {
+fn judge(rt: &impl Print, line: &[u8], number: u64) -> io::Result<Outcome> {
     let wanted = part(line, after(line, b'='), find(line, 0, b';'));
-    let a = runs::answer(line, wanted);
+    let a = runs::answer(rt, line, wanted)?;
     if answers::agrees(&a, wanted) {
-        return Outcome::Right;
+        return Ok(Outcome::Right);
     }
-    print(b"line ");
-    print_number(number);
-    print(b": got");
-    answers::print(&a);
-    print(b" and wanted");
-    print(wanted);
-    print(b"\n");
-    Outcome::Wrong
+    print(rt, b"line ")?;
+    print_number(rt, number)?;
+    print(rt, b": got")?;
+    answers::print(rt, &a)?;
+    print(rt, b" and wanted")?;
+    print(rt, wanted)?;
+    print(rt, b"\n")?;
+    Ok(Outcome::Wrong)
 }
 
-fn run_line(written: &[u8], number: u64, line: &mut [u8]) -> Outcome {
+fn run_line(rt: &impl Print, written: &[u8], number: u64, line: &mut [u8]) -> io::Result<Outcome> {
     if written.len() == 0 {
-        return Outcome::NoCase;
+        return Ok(Outcome::NoCase);
     }
     if written[0] == b'#' {
-        return Outcome::NoCase;
+        return Ok(Outcome::NoCase);
     }
     let n = spelling::spelled(written, line);
-    judge(part(line, 0, n), number)
+    judge(rt, part(line, 0, n), number)
 }
 
-fn run_lines(text: &[u8], line: &mut [u8]) -> Tally {
+fn run_lines(rt: &impl Print, text: &[u8], line: &mut [u8]) -> io::Result<Tally> {
     let mut tally = Tally {
         lines: 0,
         run: 0,
@@ -118,14 +118,14 @@ fn run_lines(text: &[u8], line: &mut [u8]) -> Tally {
     while at < text.len() {
         let end = find(text, at, b'\n');
         tally.lines = std::num::wrapping_add_u64(tally.lines, 1);
-        let o = run_line(part(text, at, end), tally.lines, line);
+        let o = run_line(rt, part(text, at, end), tally.lines, line)?;
         tally = counted(tally, o);
         if text.len() <= end {
-            return tally;
+            return Ok(tally);
         }
         at = end + 1;
     }
-    tally
+    Ok(tally)
 }
 
 // Room for the whole input, or for a line of it spelled out.
@@ -135,17 +135,17 @@ fn text_buffer() -> [u8; 1_048_576]
     [0; 1_048_576]
 }
 
-fn main() {
+fn main(rt: HostRuntime) -> io::Result<()> {
     let mut text = text_buffer();
-    let n = io::read_full(0, &mut text);
+    let n = io::copy(&mut rt.stdin().take(1_048_576), &mut &mut text[..])? as usize;
     let mut line = text_buffer();
-    let tally = run_lines(part(&text, 0, n), &mut line);
+    let tally = run_lines(&rt, part(&text, 0, n), &mut line)?;
     if n == 1_048_576 {
-        print(b"cases: only the first 1048576 bytes were read\n");
+        print(&rt, b"cases: only the first 1048576 bytes were read\n")?;
     }
-    print(b"cases: ");
-    print_number(tally.run);
-    print(b" run, ");
-    print_number(tally.wrong);
-    print(b" wrong\n");
+    print(&rt, b"cases: ")?;
+    print_number(&rt, tally.run)?;
+    print(&rt, b" run, ")?;
+    print_number(&rt, tally.wrong)?;
+    print(&rt, b" wrong\n")
 }

@@ -4,6 +4,7 @@ use crate::answers::Answer;
 use crate::spelling::{is_bytes, is_number, number8, number16, number32};
 use frame_encoder::IdleTimeOut;
 use octets::Written;
+use std::io;
 use words::{decimal, hex, part, word};
 
 // How many numbers a case has after its letter; more than any has where there is no such letter.
@@ -44,7 +45,7 @@ fn well_formed(line: &[u8], numbers: u8, strings: u8) -> bool {
         }
         i += 1;
     }
-    check::same(word(line, all + 1), b"=")
+    word(line, all + 1) == b"=".as_slice()
 }
 
 fn read(letter: u8, line: &[u8], s: &[u8]) -> Answer {
@@ -85,7 +86,7 @@ fn write_open(line: &[u8], container_id: &[u8], limit: u32, out: &mut [u8]) -> W
 }
 
 fn write_close_with_error(line: &[u8], condition: &[u8], limit: u32, out: &mut [u8]) -> Written {
-    let mut description = io::buffer();
+    let mut description = [0u8; 4096];
     let n = hex(word(line, 5), &mut description);
     let described = decimal(word(line, 3)) != 0;
     frame_encoder::write_close_with_error(
@@ -109,42 +110,55 @@ fn write(letter: u8, line: &[u8], s: &[u8], out: &mut [u8]) -> Written {
 }
 
 // The bytes that a case expects to be written are the word after `wrote`.
-fn write_filled(letter: u8, line: &[u8], s: &[u8], wanted: &[u8], out: &mut [u8]) -> Answer {
+fn write_filled(
+    rt: &impl Print,
+    letter: u8,
+    line: &[u8],
+    s: &[u8],
+    wanted: &[u8],
+    out: &mut [u8],
+) -> io::Result<Answer> {
     answers::fill(out);
     let w = write(letter, line, s, out);
-    let mut expected = io::large_buffer();
+    let mut expected = [0u8; 65536];
     let n = hex(word(wanted, 1), &mut expected);
-    answers::written(w, out, wanted, part(&expected, 0, n))
+    answers::written(rt, w, out, wanted, part(&expected, 0, n))
 }
 
 // The first number is the room that is lent.
-fn write_in_room(letter: u8, line: &[u8], s: &[u8], wanted: &[u8]) -> Answer {
-    let mut out = io::large_buffer();
+fn write_in_room(
+    rt: &impl Print,
+    letter: u8,
+    line: &[u8],
+    s: &[u8],
+    wanted: &[u8],
+) -> io::Result<Answer> {
+    let mut out = [0u8; 65536];
     let room = decimal(word(line, 1)) as usize;
     if out.len() < room {
-        return answers::bad_line();
+        return Ok(answers::bad_line());
     }
-    write_filled(letter, line, s, wanted, &mut out[0..room])
+    write_filled(rt, letter, line, s, wanted, &mut out[0..room])
 }
 
-fn run(letter: u8, line: &[u8], s: &[u8], wanted: &[u8]) -> Answer {
+fn run(rt: &impl Print, letter: u8, line: &[u8], s: &[u8], wanted: &[u8]) -> io::Result<Answer> {
     match letter {
-        b'o' | b'c' | b'e' | b't' | b'w' => write_in_room(letter, line, s, wanted),
-        _ => read(letter, line, s),
+        b'o' | b'c' | b'e' | b't' | b'w' => write_in_room(rt, letter, line, s, wanted),
+        _ => Ok(read(letter, line, s)),
     }
 }
 
 // What comes of the case on a line.
-pub(crate) fn answer(line: &[u8], wanted: &[u8]) -> Answer {
+pub(crate) fn answer(rt: &impl Print, line: &[u8], wanted: &[u8]) -> io::Result<Answer> {
     if line.len() == 0 {
-        return answers::bad_line();
+        return Ok(answers::bad_line());
     }
     let letter = line[0];
     let before = numbers(letter);
     if !well_formed(line, before, strings(letter)) {
-        return answers::bad_line();
+        return Ok(answers::bad_line());
     }
-    let mut s = io::large_buffer();
+    let mut s = [0u8; 65536];
     let n = hex(word(line, (before as usize) + 1), &mut s);
-    run(letter, line, part(&s, 0, n), wanted)
+    run(rt, letter, line, part(&s, 0, n), wanted)
 }

@@ -48,7 +48,7 @@ pub(crate) fn number32(w: &[u8]) -> u32 {
 
 // Whether a word is bytes in hexadecimal: `-` for none, or pairs of digits for at most 65,536 bytes.
 pub(crate) fn is_bytes(w: &[u8]) -> bool {
-    if check::same(w, b"-") {
+    if w == b"-".as_slice() {
         return true;
     }
     if w.len() == 0 {

@@ -1,13 +1,13 @@
 // Text and numbers in columns, on standard output.
-use libc::STDOUT_FILENO;
+use std::io;
 use words::part;
 
-pub(crate) fn print(text: &[u8]) {
-    io::write_all(STDOUT_FILENO, text);
+pub(crate) fn print(rt: &impl Print, text: &[u8]) -> io::Result<()> {
+    rt.write_all(text)
 }
 
-pub(crate) fn print_number(n: u64) {
-    io::print_decimal(STDOUT_FILENO, n);
+pub(crate) fn print_number(rt: &impl Print, n: u64) -> io::Result<()> {
+    rt.print(n)
 }
 
 // How many digits a number has, up to six.
@@ -30,48 +30,48 @@ fn digits(n: u64) -> usize {
     6
 }
 
-fn blanks(n: usize) {
-    print(part(b"              ", 0, n));
+fn blanks(rt: &impl Print, n: usize) -> io::Result<()> {
+    print(rt, part(b"              ", 0, n))
 }
 
 // A number, right-aligned.
-pub(crate) fn number(n: u64, width: usize) {
+pub(crate) fn number(rt: &impl Print, n: u64, width: usize) -> io::Result<()> {
     let d = digits(n);
     if d < width {
-        blanks(width - d);
+        blanks(rt, width - d)?;
     }
-    print_number(n);
+    print_number(rt, n)
 }
 
 // A word, left-aligned.
-pub(crate) fn column(text: &[u8], width: usize) {
-    print(text);
+pub(crate) fn column(rt: &impl Print, text: &[u8], width: usize) -> io::Result<()> {
+    print(rt, text)?;
     if text.len() < width {
-        blanks(width - text.len());
+        blanks(rt, width - text.len())?;
     }
+    Ok(())
 }
 
 // Text that came from a peer, with a dot for each byte that is no printable sign of ASCII.
-pub(crate) fn text(s: &[u8]) {
+pub(crate) fn text(rt: &impl Print, s: &[u8]) -> io::Result<()> {
     let mut i: usize = 0;
     while i < s.len() {
-        sign(s, i);
+        sign(rt, s, i)?;
         i += 1;
     }
+    Ok(())
 }
 
-fn sign(s: &[u8], i: usize) {
+fn sign(rt: &impl Print, s: &[u8], i: usize) -> io::Result<()> {
     if s.len() <= i {
-        return;
+        return Ok(());
     }
     if s[i] < 0x20 {
-        print(b".");
-        return;
+        return print(rt, b".");
     }
     if 0x7e < s[i] {
-        print(b".");
-        return;
+        return print(rt, b".");
     }
     let end = i + 1;
-    print(&s[i..end]);
+    print(rt, &s[i..end])
 }

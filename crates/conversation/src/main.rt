@@ -9,54 +9,58 @@ mod columns;
 mod rows;
 
 use columns::print;
+use std::io::{self, Read};
 
 // One line, for what stands at a place: how many bytes that was, or 0 where the program stops.
-fn entry(s: &[u8], at: usize) -> usize {
+fn entry(rt: &impl Print, s: &[u8], at: usize) -> io::Result<usize> {
     if s.len() <= at {
-        return 0;
+        return Ok(0);
     }
-    columns::number(at as u64, 8);
+    columns::number(rt, at as u64, 8)?;
     let rest = &s[at..];
     if s[at] == b'A' {
-        return rows::header(rest);
+        return rows::header(rt, rest);
     }
-    rows::frame(rest)
+    rows::frame(rt, rest)
 }
 
 // The place after what stands at `at`; the end where the program stops.
-fn after(s: &[u8], at: usize) -> usize {
-    let n = entry(s, at);
+fn after(rt: &impl Print, s: &[u8], at: usize) -> io::Result<usize> {
+    let n = entry(rt, s, at)?;
     if n == 0 {
-        return s.len();
+        return Ok(s.len());
     }
     if s.len() <= at {
-        return s.len();
+        return Ok(s.len());
     }
     if s.len() - at < n {
-        return s.len();
+        return Ok(s.len());
     }
-    at + n
+    Ok(at + n)
 }
 
-fn walk(s: &[u8]) {
+fn walk(rt: &impl Print, s: &[u8]) -> io::Result<()> {
     let mut at: usize = 0;
     let mut turns = s.len();
     while 0 < turns {
         if s.len() <= at {
-            return;
+            return Ok(());
         }
-        at = after(s, at);
+        at = after(rt, s, at)?;
         turns -= 1;
     }
+    Ok(())
 }
 
-fn main() {
-    let mut buffer = io::large_buffer();
-    let n = io::read_full(0, &mut buffer);
+fn main(rt: HostRuntime) -> io::Result<()> {
+    let mut buffer = [0u8; 65536];
+    let n = io::copy(&mut rt.stdin().take(65536), &mut &mut buffer[..])? as usize;
     if n == buffer.len() {
-        print(b"more than 65,535 bytes\n");
-        return;
+        return print(&rt, b"more than 65,535 bytes\n");
     }
-    print(b"  offset  what    length  channel  performative  payload  says\n");
-    walk(words::part(&buffer, 0, n));
+    print(
+        &rt,
+        b"  offset  what    length  channel  performative  payload  says\n",
+    )?;
+    walk(&rt, words::part(&buffer, 0, n))
 }

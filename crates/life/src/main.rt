@@ -12,15 +12,17 @@ mod rows;
 
 use connection::{Connection, NewConnection};
 use frame_encoder::IdleTimeOut;
+use std::io::{self, Read};
 use words::part;
 
-fn title(line: &[u8]) {
-    rows::print(line);
-    rows::print(b"\n");
+fn title(rt: &impl Print, line: &[u8]) -> io::Result<()> {
+    rows::print(rt, line)?;
+    rows::print(rt, b"\n")
 }
 
 // The calls of a script, whose lines each end with a newline.
 fn play(
+    rt: &impl Print,
     script: &[u8],
     nameless: Connection,
     other: Connection,
@@ -28,23 +30,24 @@ fn play(
     hub_tables: &mut [u8],
     pad_out: &mut [u8],
     hub_out: &mut [u8],
-) {
+) -> io::Result<()> {
     let mut pad = nameless;
     let mut hub = other;
     let mut at: usize = 0;
     while at < script.len() {
         let end = words::find(script, at, b'\n');
         if script.len() <= end {
-            return;
+            return Ok(());
         }
         let line = part(script, at, end);
         at = end + 1;
         match calls::at(line, 0) {
-            b'p' => pad = calls::call(pad, line, pad_tables, pad_out, hub_out),
-            b'h' => hub = calls::call(hub, line, hub_tables, hub_out, pad_out),
-            _ => title(line),
+            b'p' => pad = calls::call(rt, pad, line, pad_tables, pad_out, hub_out)?,
+            b'h' => hub = calls::call(rt, hub, line, hub_tables, hub_out, pad_out)?,
+            _ => title(rt, line)?,
         }
     }
+    Ok(())
 }
 
 // Before a script's first calls there is a dialler with no name on both sides.
@@ -52,18 +55,19 @@ fn nameless(tables: &mut [u8]) -> NewConnection {
     Connection::dialler(b"", 512, 0, IdleTimeOut::Never, tables)
 }
 
-fn start(script: &[u8]) {
-    let mut pad_tables = io::large_buffer();
-    let mut hub_tables = io::large_buffer();
+fn start(rt: &impl Print, script: &[u8]) -> io::Result<()> {
+    let mut pad_tables = [0u8; 65536];
+    let mut hub_tables = [0u8; 65536];
     let NewConnection::Made(pad) = nameless(&mut pad_tables) else {
-        return;
+        return Ok(());
     };
     let NewConnection::Made(hub) = nameless(&mut hub_tables) else {
-        return;
+        return Ok(());
     };
-    let mut pad_out = io::large_buffer();
-    let mut hub_out = io::large_buffer();
+    let mut pad_out = [0u8; 65536];
+    let mut hub_out = [0u8; 65536];
     play(
+        rt,
         script,
         pad,
         hub,
@@ -71,12 +75,15 @@ fn start(script: &[u8]) {
         &mut hub_tables,
         &mut pad_out,
         &mut hub_out,
-    );
+    )
 }
 
-fn main() {
-    let mut script = io::large_buffer();
-    let n = io::read_full(0, &mut script);
-    rows::print(b"side  call                    state after     lent: answer\n");
-    start(part(&script, 0, n));
+fn main(rt: HostRuntime) -> io::Result<()> {
+    let mut script = [0u8; 65536];
+    let n = io::copy(&mut rt.stdin().take(65536), &mut &mut script[..])? as usize;
+    rows::print(
+        &rt,
+        b"side  call                    state after     lent: answer\n",
+    )?;
+    start(&rt, part(&script, 0, n))
 }

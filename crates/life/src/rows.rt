@@ -3,16 +3,16 @@ use channels::AgreedMax;
 use connection::{AllocateAnswer, DeallocateAnswer, HandleAnswer, HeaderAnswer, TickAnswer};
 use connection_state::ConnectionState;
 use endpoint::FrameAnswer;
-use libc::STDOUT_FILENO;
 use octets::Written;
+use std::io;
 use words::{part, word};
 
-pub(crate) fn print(text: &[u8]) {
-    io::write_all(STDOUT_FILENO, text);
+pub(crate) fn print(rt: &impl Print, text: &[u8]) -> io::Result<()> {
+    rt.write_all(text)
 }
 
-pub(crate) fn number(n: u64) {
-    io::print_decimal(STDOUT_FILENO, n);
+pub(crate) fn number(rt: &impl Print, n: u64) -> io::Result<()> {
+    rt.print(n)
 }
 
 fn wide(b: u8) -> u64 {
@@ -20,20 +20,21 @@ fn wide(b: u8) -> u64 {
 }
 
 // A word, left-aligned.
-fn column(text: &[u8], width: usize) {
-    print(text);
+fn column(rt: &impl Print, text: &[u8], width: usize) -> io::Result<()> {
+    print(rt, text)?;
     if text.len() < width {
-        print(part(b"                        ", 0, width - text.len()));
+        print(rt, part(b"                        ", 0, width - text.len()))?;
     }
+    Ok(())
 }
 
 // A line's start: whose call, and which.
-pub(crate) fn call(side: &[u8], name: &[u8]) {
-    column(side, 6);
-    column(name, 24);
+pub(crate) fn call(rt: &impl Print, side: &[u8], name: &[u8]) -> io::Result<()> {
+    column(rt, side, 6)?;
+    column(rt, name, 24)
 }
 
-pub(crate) fn state(state: ConnectionState) {
+pub(crate) fn state(rt: &impl Print, state: ConnectionState) -> io::Result<()> {
     let place: usize = match state {
         ConnectionState::Start => 0,
         ConnectionState::HeaderReceived => 1,
@@ -51,39 +52,42 @@ pub(crate) fn state(state: ConnectionState) {
         ConnectionState::End => 13,
     };
     column(
+        rt,
         word(
             b"Start HeaderReceived HeaderSent HeaderExchange OpenPipe OpenClosePipe OpenReceived OpenSent ClosePipe Opened CloseReceived CloseSent Discarding End",
             place,
         ),
         16,
-    );
+    )
 }
 
 // What was lent: a number, with what it is.
-pub(crate) fn lent(what: &[u8], n: u64) {
-    print(what);
-    number(n);
-    print(b": ");
+pub(crate) fn lent(rt: &impl Print, what: &[u8], n: u64) -> io::Result<()> {
+    print(rt, what)?;
+    number(rt, n)?;
+    print(rt, b": ")
 }
 
 // What was lent: a header, told by its protocol id, or by how many bytes there are of it.
-pub(crate) fn lent_header(s: &[u8]) {
+pub(crate) fn lent_header(rt: &impl Print, s: &[u8]) -> io::Result<()> {
     if s.len() < 8 {
-        lent(b"bytes ", s.len() as u64);
-        return;
+        return lent(rt, b"bytes ", s.len() as u64);
     }
-    lent(b"id ", wide(s[4]));
+    lent(rt, b"id ", wide(s[4]))
 }
 
 // The performative that a code stands for.
-fn performative(code: u8) {
+fn performative(rt: &impl Print, code: u8) -> io::Result<()> {
     if code < 16 {
-        return;
+        return Ok(());
     }
-    print(word(
-        b"open begin attach flow transfer disposition detach end close",
-        (code - 16) as usize,
-    ));
+    print(
+        rt,
+        word(
+            b"open begin attach flow transfer disposition detach end close",
+            (code - 16) as usize,
+        ),
+    )
 }
 
 // The length that a frame says it has.
@@ -103,116 +107,114 @@ fn code(s: &[u8]) -> u8 {
 }
 
 // What was lent: a frame, told by its performative, or its length where there is none, and its channel; or by how many bytes there are of its header.
-pub(crate) fn lent_frame(s: &[u8]) {
+pub(crate) fn lent_frame(rt: &impl Print, s: &[u8]) -> io::Result<()> {
     if s.len() < 8 {
-        lent(b"bytes ", s.len() as u64);
-        return;
+        return lent(rt, b"bytes ", s.len() as u64);
     }
     let found = code(s);
     if found == 0 {
-        print(b"length ");
-        number(length(s));
+        print(rt, b"length ")?;
+        number(rt, length(s))?;
     } else {
-        performative(found);
+        performative(rt, found)?;
     }
-    lent(b" on ", octets::number(part(s, 6, 8)));
+    lent(rt, b" on ", octets::number(part(s, 6, 8)))
 }
 
-pub(crate) fn refused(k: u8) {
-    counted(b"refused ", wide(k));
+pub(crate) fn refused(rt: &impl Print, k: u8) -> io::Result<()> {
+    counted(rt, b"refused ", wide(k))
 }
 
-fn counted(text: &[u8], n: u64) {
-    print(text);
-    number(n);
-    print(b"\n");
+fn counted(rt: &impl Print, text: &[u8], n: u64) -> io::Result<()> {
+    print(rt, text)?;
+    number(rt, n)?;
+    print(rt, b"\n")
 }
 
-pub(crate) fn written(answer: Written) {
+pub(crate) fn written(rt: &impl Print, answer: Written) -> io::Result<()> {
     match answer {
-        Written::Bytes(n) => counted(b"wrote ", n as u64),
-        Written::Refused(k) => refused(k),
-    }
-}
-
-pub(crate) fn header(answer: HeaderAnswer) {
-    match answer {
-        HeaderAnswer::Amqp(n) => counted(b"AMQP 1.0.0; consumed ", n as u64),
-        HeaderAnswer::OtherProtocol(n) => counted(b"other protocol; consumed ", n as u64),
-        HeaderAnswer::Refused(k) => refused(k),
+        Written::Bytes(n) => counted(rt, b"wrote ", n as u64),
+        Written::Refused(k) => refused(rt, k),
     }
 }
 
-pub(crate) fn ticked(answer: TickAnswer) {
+pub(crate) fn header(rt: &impl Print, answer: HeaderAnswer) -> io::Result<()> {
     match answer {
-        TickAnswer::Wrote(n) => counted(b"wrote ", n as u64),
-        TickAnswer::Stop => print(b"stop\n"),
-        TickAnswer::Refused(k) => refused(k),
+        HeaderAnswer::Amqp(n) => counted(rt, b"AMQP 1.0.0; consumed ", n as u64),
+        HeaderAnswer::OtherProtocol(n) => counted(rt, b"other protocol; consumed ", n as u64),
+        HeaderAnswer::Refused(k) => refused(rt, k),
     }
 }
 
-pub(crate) fn allocated(answer: AllocateAnswer) {
+pub(crate) fn ticked(rt: &impl Print, answer: TickAnswer) -> io::Result<()> {
     match answer {
-        AllocateAnswer::Channel(n) => counted(b"channel ", n as u64),
-        AllocateAnswer::Refused(k) => refused(k),
+        TickAnswer::Wrote(n) => counted(rt, b"wrote ", n as u64),
+        TickAnswer::Stop => print(rt, b"stop\n"),
+        TickAnswer::Refused(k) => refused(rt, k),
     }
 }
 
-pub(crate) fn freed(answer: DeallocateAnswer) {
+pub(crate) fn allocated(rt: &impl Print, answer: AllocateAnswer) -> io::Result<()> {
     match answer {
-        DeallocateAnswer::Freed(n) => counted(b"freed handle ", n as u64),
-        DeallocateAnswer::Refused(k) => refused(k),
+        AllocateAnswer::Channel(n) => counted(rt, b"channel ", n as u64),
+        AllocateAnswer::Refused(k) => refused(rt, k),
+    }
+}
+
+pub(crate) fn freed(rt: &impl Print, answer: DeallocateAnswer) -> io::Result<()> {
+    match answer {
+        DeallocateAnswer::Freed(n) => counted(rt, b"freed handle ", n as u64),
+        DeallocateAnswer::Refused(k) => refused(rt, k),
     }
 }
 
 // A handle, the place and the length of the body that goes to it, and the bytes consumed.
-fn passed(handle: u64, from: u64, len: u64, consumed: u64) {
-    print(b" to handle ");
-    number(handle);
-    print(b", body at ");
-    number(from);
-    print(b", ");
-    number(len);
-    counted(b" bytes; consumed ", consumed);
+fn passed(rt: &impl Print, handle: u64, from: u64, len: u64, consumed: u64) -> io::Result<()> {
+    print(rt, b" to handle ")?;
+    number(rt, handle)?;
+    print(rt, b", body at ")?;
+    number(rt, from)?;
+    print(rt, b", ")?;
+    number(rt, len)?;
+    counted(rt, b" bytes; consumed ", consumed)
 }
 
-fn opened(idle_time_out: u64, consumed: u64) {
+fn opened(rt: &impl Print, idle_time_out: u64, consumed: u64) -> io::Result<()> {
     if idle_time_out == 0 {
-        print(b"open, no idle-time-out");
+        print(rt, b"open, no idle-time-out")?;
     } else {
-        print(b"open, idle-time-out ");
-        number(idle_time_out);
+        print(rt, b"open, idle-time-out ")?;
+        number(rt, idle_time_out)?;
     }
-    counted(b"; consumed ", consumed);
+    counted(rt, b"; consumed ", consumed)
 }
 
-fn closed(with_error: bool, consumed: u64) {
+fn closed(rt: &impl Print, with_error: bool, consumed: u64) -> io::Result<()> {
     if with_error {
-        counted(b"close with an error; consumed ", consumed);
-        return;
+        return counted(rt, b"close with an error; consumed ", consumed);
     }
-    counted(b"close without an error; consumed ", consumed);
+    counted(rt, b"close without an error; consumed ", consumed)
 }
 
-fn began(channel: u64) {
-    print(b"new session on channel ");
-    number(channel);
-    print(b", begin");
+fn began(rt: &impl Print, channel: u64) -> io::Result<()> {
+    print(rt, b"new session on channel ")?;
+    number(rt, channel)?;
+    print(rt, b", begin")
 }
 
-pub(crate) fn frame(answer: FrameAnswer) {
+pub(crate) fn frame(rt: &impl Print, answer: FrameAnswer) -> io::Result<()> {
     match answer {
         FrameAnswer::NothingToDo { consumed } => {
-            counted(b"nothing to do; consumed ", consumed as u64)
+            counted(rt, b"nothing to do; consumed ", consumed as u64)
         }
         FrameAnswer::Opened {
             consumed,
             idle_time_out,
-        } => opened(idle_time_out as u64, consumed as u64),
+        } => opened(rt, idle_time_out as u64, consumed as u64),
         FrameAnswer::Closed {
             consumed,
             with_error,
-        } => closed(with_error, consumed as u64),
+        } => closed(rt, with_error, consumed as u64),
         FrameAnswer::Forward {
             consumed,
             code,
@@ -220,8 +222,8 @@ pub(crate) fn frame(answer: FrameAnswer) {
             from,
             len,
         } => {
-            performative(code);
-            passed(handle as u64, from as u64, len as u64, consumed as u64);
+            performative(rt, code)?;
+            passed(rt, handle as u64, from as u64, len as u64, consumed as u64)
         }
         FrameAnswer::Began {
             consumed,
@@ -230,34 +232,39 @@ pub(crate) fn frame(answer: FrameAnswer) {
             from,
             len,
         } => {
-            began(channel as u64);
-            passed(handle as u64, from as u64, len as u64, consumed as u64);
+            began(rt, channel as u64)?;
+            passed(rt, handle as u64, from as u64, len as u64, consumed as u64)
         }
-        FrameAnswer::Refused(k) => refused(k),
+        FrameAnswer::Refused(k) => refused(rt, k),
     }
 }
 
-pub(crate) fn limits(reading: u32, writing: u32, agreed: AgreedMax) {
-    print(b"reads up to ");
-    number(reading as u64);
-    print(b", writes up to ");
-    number(writing as u64);
+pub(crate) fn limits(
+    rt: &impl Print,
+    reading: u32,
+    writing: u32,
+    agreed: AgreedMax,
+) -> io::Result<()> {
+    print(rt, b"reads up to ")?;
+    number(rt, reading as u64)?;
+    print(rt, b", writes up to ")?;
+    number(rt, writing as u64)?;
     match agreed {
-        AgreedMax::Absent => print(b", no channel-max agreed\n"),
-        AgreedMax::Is(n) => counted(b", agreed channel-max ", n as u64),
+        AgreedMax::Absent => print(rt, b", no channel-max agreed\n"),
+        AgreedMax::Is(n) => counted(rt, b", agreed channel-max ", n as u64),
     }
 }
 
 // A channel and its handle; nothing where it has none.
-pub(crate) fn entry(channel: u16, found: HandleAnswer) {
+pub(crate) fn entry(rt: &impl Print, channel: u16, found: HandleAnswer) -> io::Result<()> {
     match found {
         HandleAnswer::Handle(n) => {
-            print(b" ");
-            number(channel as u64);
-            print(b":");
-            number(n as u64);
+            print(rt, b" ")?;
+            number(rt, channel as u64)?;
+            print(rt, b":")?;
+            number(rt, n as u64)
         }
-        HandleAnswer::Nothing => {}
-        HandleAnswer::Refused(k) => refused(k),
+        HandleAnswer::Nothing => Ok(()),
+        HandleAnswer::Refused(k) => refused(rt, k),
     }
 }
