@@ -1,25 +1,23 @@
 -- Laws of written frames: their length, how they come about by writes one after the other, and the order of refusals. Within which limits settings are.
 -- Assumes nothing.
-use mathlib.Core.Path.{◌≡◌, refl, sym, ap, ◌∙◌, subst}
+use mathlib.Core.Path.{◌≡◌, refl, ap, ◌∙◌}
 use mathlib.Core.Bool.{Bool, true, false, and-eq-true_iff}
-use mathlib.Core.List.{List, [], ◌∷◌, ◌++◌, append_assoc, append-nil}
-use mathlib.Core.Option.{Option, none, some}
-use Prim.Native.Nat.{ℕ, zero, suc, ◌+◌, ◌*◌, ◌-◌, ◌/◌, ◌%◌, ◌^◌, ◌<◌, ◌≤◌}
+use mathlib.Core.List.{List, ◌++◌, append_assoc}
+use Prim.Native.Nat.{ℕ, ◌+◌, ◌*◌, ◌/◌, ◌%◌, ◌<◌, ◌≤◌}
 use native.Mathlib.Omega.{arith}
 use lib.ListN.{length, length-append}
 use lib.Dec.{leb, eqb}
 use mir.Syntax.{w16, w32}
 use mir.Val.{Fits}
-use borrow.Author.Tests.{le-leb, lt-leb, eq-eqb, ne_eqb, leb-true}
-use Rattle.octets.specs.Verdict.{Verdict, refuse, accept, require}
+use borrow.Author.Tests.{le-leb, lt-leb, leb-true}
+use Rattle.octets.specs.Verdict.{refuse, accept, require}
 use Rattle.octets.specs.Octets.{bytes_of, put, starts_with}
-use Rattle.octets.specs.Output.{room_for, Wrote}
+use Rattle.octets.specs.Output.{Wrote}
 use Rattle.octets.specs.declared.Written.TheVariants.{Bytes, Refused}
-use Rattle.octets.proofs.Laws.{length_bytes_of, length_put, put_put, put_next, room_yes, room_no, wrote_no, wrote_yes, require_on, require_off}
+use Rattle.octets.proofs.Laws.{put_next, room_yes, room_no, wrote_no, wrote_yes}
 use Rattle.text.specs.Utf8.{utf8}
-use Rattle.values.specs.Null.{null, is_null}
-use Rattle.serializer.specs.Written.{uint, ushort, text, joined, trimmed, composite_header, composite}
-use Rattle.serializer.proofs.Laws.{uint_none, uint_small, uint_large}
+use Rattle.values.specs.Null.{is_null}
+use Rattle.serializer.specs.Written.{uint, joined, trimmed, composite_header, composite}
 use Rattle.frame_encoder.specs.Frames.{frame_header, frame_bytes, limited, write_frame, settings_ok}
 
 -- ---- a frame

@@ -1,10 +1,10 @@
 -- What each step of the writers shows, with the answers of the functions that they call as they come.
 -- Assumes nothing.
-use mathlib.Core.Path.{◌≡◌, refl, sym, ap, ◌∙◌, subst}
+use mathlib.Core.Path.{◌≡◌, refl, sym, ap, ◌∙◌}
 use mathlib.Core.Bool.{Bool, true, false, false≢true}
 use mathlib.Core.List.{List, [], ◌∷◌, ◌++◌, append_assoc, append-nil}
-use mathlib.Core.Option.{Option, none, some}
-use Prim.Native.Nat.{ℕ, zero, suc, ◌+◌, ◌*◌, ◌-◌, ◌<◌, ◌≤◌}
+use mathlib.Core.Option.{none, some}
+use Prim.Native.Nat.{ℕ, ◌+◌, ◌*◌, ◌<◌, ◌≤◌}
 use native.Mathlib.Omega.{arith}
 use lib.ListN.{length, length-append}
 use lib.Dec.{leb}
@@ -26,7 +26,7 @@ use Rattle.serializer.specs.Written.{list_header, uint, ushort, text, text_heade
 use Rattle.serializer.proofs.Laws.{one_byte, header_few}
 use Rattle.frame_encoder.specs.declared.IdleTimeOut.{IdleTimeOut}
 use Rattle.frame_encoder.specs.declared.IdleTimeOut.TheVariants.{Never, Millis}
-use Rattle.frame_encoder.specs.Frames.{Settings, ErrorText, frame_header, frame_bytes, settings_ok, idle_field, idle_kept, open_fields, write_open, description_ok, error_ok, description_field, error_fields, error_field, write_close, write_empty}
+use Rattle.frame_encoder.specs.Frames.{ErrorText, frame_header, frame_bytes, settings_ok, idle_field, idle_kept, open_fields, write_open, description_ok, error_ok, description_field, error_fields, error_field, write_close, write_empty}
 use Rattle.frame_encoder.specs.Answers.{idle_said, settings, given, error_text, Sized, ErrorSized, Short, ErrorRoom}
 use Rattle.frame_encoder.proofs.Laws.{header_bytes_lem, length_header, settings_within, uint_not_null, wrote_9, wrote_8, wrote_27, wrote_frame, framed_length, framed}
 

@@ -1,8 +1,8 @@
 -- Frames written: Part 2 section 2.3 and document 01. Each rule answers with the bytes to be written; refusals in the order of document 01.
 -- Assumes nothing: these are definitions.
-use Rattle.std.specs.Prelude.{ℕ, ◌+◌, Bool, true, false, ◌&&◌, List, [], ◌∷◌, ◌++◌, length, leb}
+use Rattle.std.specs.Prelude.{ℕ, ◌+◌, Bool, true, ◌&&◌, List, [], ◌∷◌, ◌++◌, length, leb}
 use Rattle.std.proofs.Math.Option.{Option, none, some}
-use Rattle.octets.specs.Verdict.{Verdict, refuse, accept, require}
+use Rattle.octets.specs.Verdict.{Verdict, accept, require}
 use Rattle.octets.specs.Octets.{bytes_of}
 use Rattle.octets.specs.Output.{room_for}
 use Rattle.text.specs.Utf8.{utf8}
