@@ -1,7 +1,7 @@
 #!/usr/bin/env bash
 # Tests of the C side: the headers as C and as C++, the example, that the archive needs no other code, the tests through C (under valgrind too), the stack, that a tie costs the same however many there are, the frame
 # reader, the instructions of a width, a bound on those of reading, and the example hub against its stored output and with damaged pads.
-# Usage: tests/c.sh [ARCHIVE]; without ARCHIVE the library is built by rt, with the kit that keeps the module of it for tests/fuzz.sh. Installs gcc, g++ and valgrind where they are missing.
+# Usage: tests/c.sh [ARCHIVE]; without ARCHIVE the library is built by rt. Installs gcc, g++ and valgrind where they are missing.
 # The last line is 'c.sh: N parts passed', and the exit status 0, where nothing was wrong.
 set -euo pipefail
 archive="$(realpath "${1:-/dev/null}")"
@@ -13,10 +13,10 @@ work=target/c
 mkdir -p "$work"
 if [ $# -eq 0 ]; then
     archive=target/staticlib/libhisproat.a
-    RATTLE_HOME="$(bash tests/fuzz.sh kit)" tests/prove.sh staticlib hisproat
+    tests/prove.sh archive hisproat
 fi
 reader=target/staticlib/libframe_reader.a
-tests/prove.sh staticlib frame_reader
+tests/prove.sh archive frame_reader
 warnings=(-Wall -Wextra -Werror -pedantic -Iinclude)
 parts=0
 
@@ -87,7 +87,7 @@ passed "a width is the few instructions that the document shows"
 
 # the bounds on instructions, and that they can fail
 gcc -std=c11 -O2 "${warnings[@]}" tests/c/linear.c "$reader" "$archive" -o "$work/linear"
-tests/prove.sh check bench
+tests/prove.sh program bench
 python3 tests/linear.py "$work/linear" target/bin/bench
 if python3 tests/linear.py "$work/linear" target/bin/bench slow > "$work/slow.log" 2>&1; then
     echo "c.sh: the bounds do not notice a reader that goes over what is claimed" >&2

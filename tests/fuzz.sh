@@ -1,62 +1,34 @@
 #!/usr/bin/env bash
 # Fuzzes the C interface: tests/c/fuzz.c under libFuzzer, guided by the coverage of the library's own code. Usage: tests/fuzz.sh [SECONDS]; the default is 60.
 #
-# rattle makes one LLVM module of the library, and the kit's clang compiles it. Here the library is built once more with a clang that also keeps the module, and the object must be the one
-# in the archive, byte for byte. The module is then compiled with counters on its edges and comparisons, and with AddressSanitizer. Building again checks the proofs of the crate hisproat
-# again, one to two minutes; it is done once for an archive. The corpus, and what the run finds, are tried on the archive itself too.
+# The toolchain makes one LLVM module of the library, and compiles it. tests/module.sh builds the library so that the module is kept, and the object must be the one in the archive, byte for
+# byte. The module is then compiled with counters on its edges and comparisons, and with AddressSanitizer. Where the archive was not built so, it is built once more, which proves the crate
+# hisproat again, over what rt kept of that; it is done once for an archive. The corpus, and what the run finds, are tried on the archive itself too.
 #
 # The corpus is tests/fuzz/corpus.txt: a line for each input, in hexadecimal digits. The seed is fixed, so a run can be repeated as far as its seconds allow.
-# Needs the archive (HISPROAT_ARCHIVE, default target/staticlib/libhisproat.a) and the proved libraries, as `rt staticlib hisproat` leaves them, and python3; installs clang-14 and its
+# Needs the archive (HISPROAT_ARCHIVE, default target/staticlib/libhisproat.a) and the proved libraries, as `tests/prove.sh archive hisproat` leaves them, and python3; installs clang-14 and its
 # libFuzzer where they are missing. The last line is 'fuzz.sh: N executions over a corpus of M inputs, no fault', and the exit status 0; on a fault the input is kept below target/fuzz, and the status is 1.
-#
-# `tests/fuzz.sh kit` only lays out the kit that keeps the module, and prints its folder: an archive that was built with RATTLE_HOME set to it is not built again here.
 set -euo pipefail
 cd "$(dirname "$0")/.."
-top="$PWD"
-work="$top/target/fuzz"
+work="$PWD/target/fuzz"
+mkdir -p "$work"
 archive="${HISPROAT_ARCHIVE:-target/staticlib/libhisproat.a}"
-kit="$(dirname "$(dirname "$(readlink -f "$(command -v rt)")")")"
-machine="on/$(uname -m)"
-clang="$machine/toolchain/bin/clang"
+clang="$(dirname "$(rt doc)")/toolchain/bin/clang"
 
-mirror() { # FROM TO NAME: a folder TO with links to all that is in FROM, but for NAME
-    mkdir -p "$2"
-    for entry in "$1"/*; do
-        [ "$(basename "$entry")" = "$3" ] || ln -sfn "$entry" "$2/$(basename "$entry")"
+# The module of which the archive is made: kept when the archive was built, or from a build to keep it.
+find_module() {
+    for module in target/staticlib/hisproat "$work/hisproat"; do
+        if [ -f "$module.o" ] && ar p "$archive" | cmp -s - "$module.o"; then return; fi
     done
-}
-
-# The kit, with a clang that keeps the module and the object made of it.
-lay_out_kit() {
-    mirror "$kit" "$work/kit" on
-    mirror "$kit/$machine" "$work/kit/$machine" toolchain
-    mirror "$kit/$machine/toolchain" "$work/kit/$machine/toolchain" bin
-    mirror "$kit/$machine/toolchain/bin" "$work/kit/$machine/toolchain/bin" clang
-    printf '#!/bin/sh\n"%s" "$@" || exit\ncp module.bc module.o "%s/"\n' "$kit/$clang" "$work" > "$work/kit/$clang"
-    chmod +x "$work/kit/$clang"
-}
-
-# Whether the object that was kept is the archive's.
-is_kept() {
-    [ -f "$work/module.o" ] && ar p "$archive" | cmp -s - "$work/module.o"
-}
-
-# Builds the library again, in a folder that has what rt looks for, so that the archive is not touched.
-keep_module() {
-    rm -rf "$work/repository/target/staticlib"
-    mkdir -p "$work/repository/target"
-    for part in crates crates.txt target/rlib target/stamp; do
-        ln -sfn "$top/$part" "$work/repository/$part"
-    done
-    (cd "$work/repository" && RATTLE_HOME="$work/kit" "$top/tests/prove.sh" staticlib hisproat)
-    is_kept || { echo "fuzz.sh: the library, built again, is not $archive" >&2; exit 1; }
+    tests/module.sh hisproat "$work" > "$work/build.log" 2>&1 || { cat "$work/build.log"; exit 1; }
+    ar p "$archive" | cmp -s - "$module.o" || { echo "fuzz.sh: the library, built again, is not $archive" >&2; exit 1; }
 }
 
 # The module with counters, and with AddressSanitizer in every function. Loops are neither unrolled nor made into vectors, so that an edge is a branch of the source.
 instrument() {
-    "$kit/$clang" -x ir "$work/module.bc" -S -emit-llvm -Xclang -disable-llvm-passes -o "$work/module.ll"
+    "$clang" -x ir "$module.bc" -S -emit-llvm -Xclang -disable-llvm-passes -o "$work/module.ll"
     sed -i 's/^\(define .*\) {$/\1 sanitize_address {/' "$work/module.ll"
-    "$kit/$clang" -c -x ir "$work/module.ll" -O3 -fno-unroll-loops -fno-vectorize -fno-slp-vectorize -fPIC -march=x86-64 \
+    "$clang" -c -x ir "$work/module.ll" -O3 -fno-unroll-loops -fno-vectorize -fno-slp-vectorize -fPIC -march=x86-64 \
         -fsanitize=address -fsanitize-coverage=inline-8bit-counters,pc-table,trace-cmp -o "$work/covered.o"
 }
 
@@ -94,18 +66,13 @@ count() { # LOG: how many inputs were executed
     sed -n 's/^stat::number_of_executed_units: *//p' "$work/$1.log"
 }
 
-lay_out_kit
-if [ "${1:-}" = kit ]; then
-    echo "$work/kit"
-    exit
-fi
 seconds="${1:-60}"
 [ -f "$archive" ] || { echo "fuzz.sh: there is no $archive" >&2; exit 1; }
 if ! command -v clang-14 > /dev/null || [ ! -f "$(clang-14 -print-runtime-dir)/libclang_rt.fuzzer-x86_64.a" ]; then
     tests/install.sh --no-install-recommends clang-14 libclang-rt-14-dev
 fi
 export ASAN_OPTIONS=detect_leaks=0:quarantine_size_mb=16
-is_kept || keep_module
+find_module
 instrument
 build
 unpack

@@ -15,7 +15,7 @@ if [ "${#missing[@]}" -gt 0 ]; then
     tests/install.sh --no-install-recommends "${missing[@]}"
 fi
 if [ -z "${HISPROAT_ARCHIVE:-}" ] && [ ! -f "$archive" ]; then
-    tests/prove.sh staticlib hisproat
+    tests/prove.sh archive hisproat
 fi
 gcc -std=c11 -O2 -Wall -Wextra -Werror -pedantic -Iinclude -Itests/c tests/c/proton.c tests/c/proton_bodies.c "$archive" -lqpid-proton -o "$work/proton"
 "$work/proton" "$@" | sed '$s/^/proton.sh: /'
