@@ -1,16 +1,16 @@
 -- What the definitions of the crates below say of what was read.
 -- Assumes nothing.
-use mathlib.Core.Path.{◌≡◌, refl, sym, ap, ◌∙◌}
+use mathlib.Core.Path.{◌≡◌, refl, ap}
 use mathlib.Core.Bool.{Bool, true, false, cond, ◌&&◌}
 use mathlib.Core.List.{List, [], ◌∷◌}
 use mathlib.Core.Option.{Option, none, some}
-use Prim.Native.Nat.{ℕ, zero, suc, ◌+◌, ◌-◌, ◌<◌, ◌≤◌}
+use Prim.Native.Nat.{ℕ, zero, suc, ◌+◌, ◌<◌, ◌≤◌}
 use native.Mathlib.Numerals.{add-one}
 use native.Mathlib.Omega.{arith}
-use lib.ListN.{length, take, drop, length-drop}
+use lib.ListN.{length, drop, length-drop}
 use lib.Dec.{leb, eqb}
 use borrow.Author.Tests.{leb-true}
-use Rattle.octets.specs.Verdict.{Verdict, refuse, accept, and_then}
+use Rattle.octets.specs.Verdict.{accept}
 use Rattle.performatives.specs.Fields.{Field, performatives, fields_in, fields_of, field_in, field_of, field_at}
 use Rattle.performatives.specs.Performative.{Described, described}
 use Rattle.performatives.proofs.Bounds.{described_lies}

@@ -2,44 +2,43 @@
 -- Assumes nothing.
 use mathlib.Core.Path.{◌≡◌, refl, sym, ap, ◌∙◌, subst}
 use mathlib.Core.Bool.{Bool, true, false, cond}
-use mathlib.Core.List.{List, [], ◌∷◌, ◌++◌, append_assoc}
+use mathlib.Core.List.{List, [], ◌∷◌, ◌++◌}
 use Prim.Native.Nat.{ℕ, zero, suc, ◌+◌, ◌-◌, ◌*◌, ◌^◌, ◌<◌, ◌≤◌}
 use native.Mathlib.Omega.{arith}
 use native.Mathlib.Numerals.{add-one}
 use mir.Syntax.{w8, w32, w64}
 use mir.Val.{Fits}
 use lib.ListN.{length, take, drop, length-append, length-take, length-drop, take-append-drop}
-use lib.Seq.{length-take-le, take-take, drop-drop, take-append-le, drop-append-le, take-append-add, take-append_seam}
+use lib.Seq.{length-take-le, take-take, drop-drop, take-append-le, drop-append-le, take-append-add}
 use lib.Dec.{leb, eqb}
 use borrow.Author.Tests.{leb-true, leb-false, eqb-true, eqb-false}
 use Rattle.octets.specs.Verdict.{Verdict, refuse, accept, and_then}
 use Rattle.octets.specs.Octets.{starts_with, put}
-use Rattle.octets.proofs.Laws.{then_accept, then_refuse, put_put, length_put}
+use Rattle.octets.proofs.Laws.{then_accept, put_put, length_put}
 use Rattle.values.specs.Value.{value_end}
 use Rattle.values.specs.Null.{null, is_null}
 use Rattle.values.specs.Answers.{ended}
 use Rattle.values.specs.declared.Value.{Value}
 use Rattle.values.specs.declared.Value.TheVariants.{End, Malformed}
-use Rattle.values.proofs.Laws.{value_within, value_some}
+use Rattle.values.proofs.Laws.{value_within}
 use Rattle.values.proofs.Apart.{then_was}
 use Rattle.serializer.specs.Written.{text, joined, before, trimmed, composite_header, composite}
 use Rattle.serializer.proofs.Laws.{text_len_short, text_len_long, header_len_none, header_len_small, header_len_large}
 use Rattle.performatives.specs.Fields.{Error}
-use Rattle.performatives.specs.Performative.{Described, described, items_of, split}
+use Rattle.performatives.specs.Performative.{Described, described, split}
 use Rattle.performatives.specs.declared.Described as C
 use Rattle.performatives.specs.declared.Described.TheVariants.{List as Lists, Malformed as NoList}
 use Rattle.performatives.specs.Answers.{described_says}
-use Rattle.session_frame.specs.declared.field.Size.{Size}
 use Rattle.session_frame.specs.declared.field.Kept.{Kept}
 use Rattle.session_frame.specs.declared.error.Others.{Others}
 use Rattle.session_frame.specs.declared.error.Others.TheVariants.{Fields, Malformed as NoFields}
 use Rattle.session_frame.specs.declared.error.ErrorParts.{ErrorParts}
 use Rattle.session_frame.specs.declared.error.ErrorParts.TheVariants.{Parts, Malformed as NoParts}
-use Rattle.session_frame.specs.Session.{text_of, error_fields, with_condition, error_of, shortest}
+use Rattle.session_frame.specs.Session.{text_of, error_fields, error_of, shortest}
 use Rattle.session_frame.specs.Parts.{Sized, size_of, kept_of, Room, others_says, others_of, parts_joined, parts_say, Within, PartsOf}
 use Rattle.session_frame.proofs.Trim.{trimmed_first}
 use Rattle.session_frame.proofs.Steps.{rest, rest_is, text_some, size_is, size_null}
-use Rattle.session_frame.proofs.Split.{split_joined, others_bound, value_in}
+use Rattle.session_frame.proofs.Split.{split_joined, others_bound}
 use Rattle.session_frame.proofs.Below.{described_in}
 
 -- ---- parts

@@ -1,25 +1,23 @@
 -- The frame: its header, the performative in the written form, and what stands after it.
 -- Assumes nothing.
-use mathlib.Core.Path.{◌≡◌, refl, sym, ap, ◌∙◌, subst}
-use mathlib.Core.Bool.{Bool, true, false}
-use mathlib.Core.List.{List, [], ◌∷◌, ◌++◌, append_assoc}
-use Prim.Native.Nat.{ℕ, zero, suc, ◌+◌, ◌*◌, ◌-◌, ◌/◌, ◌^◌, ◌<◌, ◌≤◌}
+use mathlib.Core.Path.{◌≡◌, refl, sym, ap, ◌∙◌}
+use mathlib.Core.List.{List, ◌++◌, append_assoc}
+use Prim.Native.Nat.{ℕ, ◌+◌, ◌-◌, ◌^◌, ◌<◌, ◌≤◌}
 use native.Mathlib.Omega.{arith}
-use mir.Syntax.{w8, w32, w64}
+use mir.Syntax.{w32, w64}
 use mir.Val.{Fits}
-use lib.ListN.{length, take, drop, length-append, length-take, length-drop}
-use lib.Seq.{length-take-le}
+use lib.ListN.{length, take, drop, length-append, length-drop}
 use Rattle.octets.specs.Octets.{put}
-use Rattle.octets.proofs.Laws.{put_put, put_next, length_put}
-use Rattle.serializer.specs.Written.{joined, trimmed, composite_header, composite_of}
+use Rattle.octets.proofs.Laws.{put_next, length_put}
+use Rattle.serializer.specs.Written.{joined, composite_header}
 use Rattle.frame_encoder.specs.Frames.{frame_header, frame_bytes}
 use Rattle.frame_encoder.proofs.Laws.{length_header, length_frame}
 use Rattle.session_frame.specs.declared.Plan.{Plan}
 use Rattle.session_frame.specs.Parts.{fields_from, written_from, Room, items_in, planned, head_bytes, plan_bytes, Planned}
-use Rattle.session_frame.proofs.Trim.{trimmed_first, trimmed_few, trimmed_short}
+use Rattle.session_frame.proofs.Trim.{trimmed_first, trimmed_few}
 use Rattle.session_frame.proofs.Steps.{rest, rest_is}
 use Rattle.session_frame.proofs.Errors.{header_length}
-use Rattle.session_frame.proofs.Walk.{from_count, from_length}
+use Rattle.session_frame.proofs.Walk.{from_count}
 use Rattle.session_frame.proofs.Below.{rows_left}
 
 -- ---- put_head

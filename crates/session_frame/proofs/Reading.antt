@@ -1,18 +1,18 @@
 -- A performative that was read: its fields are those that the writer goes through, and each has the size of its type.
 -- Assumes nothing.
-use mathlib.Core.Path.{◌≡◌, refl, sym, ap, ◌∙◌, subst}
-use mathlib.Core.Bool.{Bool, true, false, cond, not, ◌&&◌}
-use mathlib.Core.List.{List, [], ◌∷◌, ◌++◌}
+use mathlib.Core.Path.{◌≡◌, refl, sym, ap, ◌∙◌}
+use mathlib.Core.Bool.{Bool, true, false}
+use mathlib.Core.List.{List, [], ◌∷◌}
 use mathlib.Core.Option.{Option, none, some}
-use Prim.Native.Nat.{ℕ, zero, suc, ◌+◌, ◌*◌, ◌-◌, ◌^◌, ◌<◌, ◌≤◌}
+use Prim.Native.Nat.{ℕ, zero, suc, ◌-◌, ◌<◌, ◌≤◌}
 use native.Mathlib.Omega.{arith}
-use lib.ListN.{length, take, drop, length-take, length-drop}
+use lib.ListN.{length, take, drop}
 use lib.Seq.{length-take-le}
 use lib.Dec.{leb, eqb}
 use borrow.Author.Tests.{leb-true, leb-false, eqb-true, ne_eqb}
-use Rattle.octets.specs.Verdict.{Verdict, refuse, accept, require, and_then, accepts}
+use Rattle.octets.specs.Verdict.{Verdict, refuse, accept, require, and_then}
 use Rattle.octets.specs.Octets.{starts_with}
-use Rattle.octets.proofs.Laws.{require_was, then_accept, then_refuse}
+use Rattle.octets.proofs.Laws.{require_was, then_accept}
 use Rattle.values.specs.Value.{value_end, codes, kind_in, kind_of}
 use Rattle.values.specs.Null.{null, is_null}
 use Rattle.values.proofs.Apart.{then_was}
@@ -23,8 +23,8 @@ use Rattle.performatives.specs.Performative.{descriptor, Described, described, i
 use Rattle.performatives.proofs.Bools.{and_first, and_second}
 use Rattle.performatives.proofs.Codes.{narrow, width_below, narrow_ends, uint_ends, ushort_ends}
 use Rattle.performatives.proofs.Table.{unknown}
-use Rattle.session_frame.specs.Session.{written_field, written_fields, fields_written, performative_written}
-use Rattle.session_frame.specs.Parts.{or_null, end_or, first_len, first, rows_in, fields_from, written_from, Sized, Checked}
+use Rattle.session_frame.specs.Session.{written_field, written_fields, performative_written}
+use Rattle.session_frame.specs.Parts.{or_null, first_len, first, fields_from, written_from, Sized, Checked}
 use Rattle.session_frame.proofs.Split.{split_was, split_none}
 
 -- ---- the first field

@@ -3,17 +3,13 @@
 use mathlib.Core.Path.{◌≡◌, refl, sym, ap, ◌∙◌}
 use mathlib.Core.Bool.{Bool, true, false, cond, ◌&&◌, ◌||◌}
 use mathlib.Core.List.{List, [], ◌∷◌, ◌++◌}
-use mathlib.Core.Option.{Option, none, some}
+use mathlib.Core.Option.{none}
 use Prim.Native.Nat.{ℕ, zero, suc, ◌+◌, ◌*◌, ◌-◌, ◌/◌, ◌%◌, ◌^◌, ◌<◌, ◌≤◌}
 use native.Mathlib.Omega.{arith}
-use mir.Syntax.{w16, w32}
-use mir.Val.{Fits}
-use lib.ListN.{length, take, drop, get_or, length-take, length-drop, drop_of_length-le}
-use lib.Seq.{take_all, drop-nil, take-nil}
-use lib.Pow.{pow_mono}
+use lib.ListN.{length, take, drop, get_or, length-drop, drop_of_length-le}
+use lib.Seq.{take_all}
 use lib.Dec.{eqb, leb}
 use borrow.Author.Tests.{eq-eqb, ne_eqb}
-use Rattle.octets.specs.Verdict.{Verdict, refuse, accept}
 use Rattle.octets.specs.Octets.{big_endian, big_endian_from, bytes_of, put, starts_with}
 use Rattle.values.specs.Value.{value_end}
 use Rattle.values.specs.Null.{null, is_null}
@@ -29,7 +25,7 @@ use Rattle.performatives.specs.Answers.{type_says, default_says}
 use Rattle.session_frame.specs.declared.field.Size.{Size}
 use Rattle.session_frame.specs.declared.field.Kept.{Kept}
 use Rattle.session_frame.specs.Session.{text_of, default_of}
-use Rattle.session_frame.specs.Parts.{or_null, end_or, first_len, number_bytes, text_start, size_of, kept_before}
+use Rattle.session_frame.specs.Parts.{or_null, first_len, number_bytes, text_start, size_of, kept_before}
 
 -- the rest of s from a on, as the code hands it down
 abbrev pub rest : List ℕ → ℕ → List ℕ

@@ -1,17 +1,14 @@
 -- Fields without their trailing nulls: how many are left, how many bytes they take, and that they are the first ones.
 -- Assumes nothing.
-use mathlib.Core.Path.{◌≡◌, refl, sym, ap, ◌∙◌}
-use mathlib.Core.Bool.{Bool, true, false, cond, ◌&&◌}
-use mathlib.Core.List.{List, [], ◌∷◌, ◌++◌, append-nil}
-use Prim.Native.Nat.{ℕ, zero, suc, ◌+◌, ◌-◌, ◌<◌, ◌≤◌}
+use mathlib.Core.Path.{◌≡◌, refl, ap}
+use mathlib.Core.Bool.{Bool, true, false}
+use mathlib.Core.List.{List, [], ◌∷◌, append-nil}
+use Prim.Native.Nat.{ℕ, suc, ◌+◌, ◌≤◌}
 use native.Mathlib.Omega.{arith}
-use lib.ListN.{length, take, drop, length-append}
-use lib.Dec.{eqb}
+use lib.ListN.{length, take, length-append}
 use borrow.Author.Tests.{ne_eqb}
-use Rattle.octets.specs.Octets.{starts_with}
-use Rattle.values.specs.Null.{null, is_null}
+use Rattle.values.specs.Null.{is_null}
 use Rattle.serializer.specs.Written.{joined, before, trimmed}
-use Rattle.session_frame.specs.declared.field.Size.{Size}
 use Rattle.session_frame.specs.declared.field.Kept.{Kept}
 use Rattle.session_frame.specs.Parts.{size_of, kept_of, kept_before}
 

@@ -1,25 +1,24 @@
 -- A field by its type: its size and its bytes as it is written, with the answers of the functions that write each type as they come.
 -- Assumes nothing.
 use mathlib.Core.Path.{◌≡◌, refl, sym, ap, ◌∙◌, subst}
-use mathlib.Core.Bool.{Bool, true, false, cond}
-use mathlib.Core.List.{List, [], ◌∷◌, ◌++◌}
-use mathlib.Core.Option.{Option, none, some}
-use Prim.Native.Nat.{ℕ, zero, suc, ◌+◌, ◌*◌, ◌-◌, ◌^◌, ◌<◌, ◌≤◌}
+use mathlib.Core.Bool.{Bool, true, false}
+use mathlib.Core.List.{List, [], ◌∷◌}
+use mathlib.Core.Option.{Option}
+use Prim.Native.Nat.{ℕ, ◌+◌, ◌*◌, ◌-◌, ◌^◌, ◌<◌, ◌≤◌}
 use native.Mathlib.Omega.{arith}
 use mir.Syntax.{w16, w32, w64}
 use mir.Val.{Fits}
-use lib.ListN.{length, take, drop, length-take, length-drop}
+use lib.ListN.{length, drop, length-drop}
 use lib.Seq.{take_all}
 use lib.Pow.{pow_mono}
-use Rattle.octets.specs.Octets.{big_endian, bytes_of, put, starts_with}
-use Rattle.values.specs.Null.{null, is_null}
+use Rattle.octets.specs.Octets.{big_endian, put, starts_with}
+use Rattle.values.specs.Null.{is_null}
 use Rattle.serializer.specs.Written.{uint, ushort, text}
 use Rattle.performatives.specs.Fields as D
 use Rattle.performatives.specs.Performative.{number_of}
 use Rattle.performatives.specs.declared.FieldType as C
 use Rattle.performatives.specs.declared.FieldType.TheVariants.{Any, UShort, UInt, String, Error}
-use Rattle.performatives.specs.declared.Default.{Default}
-use Rattle.performatives.specs.Answers.{type_says, default_says}
+use Rattle.performatives.specs.Answers.{type_says}
 use Rattle.session_frame.specs.declared.field.Size.{Size}
 use Rattle.session_frame.specs.Session.{text_of, default_of, shortest, written_as}
 use Rattle.session_frame.specs.Parts.{or_null, Sized, number_bytes, size_of, Room}

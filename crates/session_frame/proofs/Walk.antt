@@ -1,25 +1,23 @@
 -- Fields one after the other, by their rows: what is kept of them, and how they are laid.
 -- Assumes nothing.
-use mathlib.Core.Path.{◌≡◌, refl, sym, ap, ◌∙◌, subst}
+use mathlib.Core.Path.{◌≡◌, refl, sym, ap, ◌∙◌}
 use mathlib.Core.Bool.{Bool, true, false, cond}
 use mathlib.Core.List.{List, [], ◌∷◌, ◌++◌}
 use mathlib.Core.Option.{Option, none, some}
 use Prim.Native.Nat.{ℕ, zero, suc, ◌+◌, ◌*◌, ◌-◌, ◌^◌, ◌<◌, ◌≤◌}
-use native.Mathlib.Numerals.{add-one}
 use native.Mathlib.Omega.{arith}
-use mir.Syntax.{w32, w64}
+use mir.Syntax.{w64}
 use mir.Val.{Fits}
 use lib.ListN.{length, take, drop, length-append, length-take, length-drop}
 use lib.Seq.{length-take-le, take-nil}
 use lib.Dec.{leb, eqb}
 use borrow.Author.Tests.{leb-true, leb-false, eqb-true, eqb-false}
 use Rattle.octets.specs.Verdict.{Verdict, refuse, accept, and_then}
-use Rattle.octets.specs.Octets.{bytes_of, put, starts_with}
-use Rattle.octets.proofs.Laws.{put_put, put_nothing, length_put, then_accept}
+use Rattle.octets.specs.Octets.{bytes_of, put}
+use Rattle.octets.proofs.Laws.{put_put, put_nothing, length_put}
 use Rattle.values.specs.Value.{value_end}
-use Rattle.values.specs.Null.{null, is_null}
+use Rattle.values.specs.Null.{is_null}
 use Rattle.values.proofs.Laws.{value_within}
-use Rattle.values.proofs.Apart.{then_was}
 use Rattle.serializer.specs.Written.{uint, ushort, text, joined, trimmed, composite_header, composite}
 use Rattle.serializer.proofs.Laws.{uint_len_none, uint_len_small, uint_len_large}
 use Rattle.performatives.specs.Fields as D
@@ -38,7 +36,7 @@ use Rattle.session_frame.proofs.Trim.{kept_before_lem, kept_none, trimmed_few, t
 use Rattle.session_frame.proofs.Steps.{rest, rest_is}
 use Rattle.session_frame.proofs.Split.{split_joined}
 use Rattle.session_frame.proofs.Errors.{text_length, text_short, header_length}
-use Rattle.session_frame.proofs.Below.{described_in, from_some, from_few, from_none, rows_left}
+use Rattle.session_frame.proofs.Below.{from_some, from_few, from_none, rows_left}
 
 -- ---- how long a field may be
 

@@ -1,16 +1,14 @@
 -- The body of a session's frame, written out; and the order of refusals.
 -- Assumes nothing.
 use mathlib.Core.Path.{◌≡◌, refl, sym, ap, ◌∙◌, subst}
-use mathlib.Core.Bool.{Bool, true, false}
-use mathlib.Core.List.{List, [], ◌∷◌, ◌++◌}
-use mathlib.Core.Option.{Option, none, some}
-use Prim.Native.Nat.{ℕ, zero, suc, ◌+◌, ◌*◌, ◌-◌, ◌/◌, ◌^◌, ◌<◌, ◌≤◌}
+use mathlib.Core.Bool.{true}
+use mathlib.Core.List.{List, ◌++◌}
+use mathlib.Core.Option.{none, some}
+use Prim.Native.Nat.{ℕ, ◌+◌, ◌*◌, ◌-◌, ◌^◌, ◌<◌, ◌≤◌}
 use native.Mathlib.Omega.{arith}
-use mir.Syntax.{w8, w32, w64}
+use mir.Syntax.{w8, w64}
 use mir.Val.{Fits}
-use lib.ListN.{length, take, drop, length-take, length-drop}
-use lib.Seq.{length-take-le}
-use lib.Dec.{leb}
+use lib.ListN.{length, take, drop, length-take}
 use borrow.Author.Tests.{le-leb, lt-leb}
 use Rattle.octets.specs.Verdict.{Verdict, refuse, accept, require, and_then, accepts}
 use Rattle.octets.specs.Octets.{put}
@@ -18,8 +16,8 @@ use Rattle.octets.specs.Output.{room_for, Wrote}
 use Rattle.octets.specs.declared.Written.{Written}
 use Rattle.octets.specs.declared.Written.TheVariants.{Bytes, Refused}
 use Rattle.octets.proofs.Laws.{require_on, require_off, then_accept, then_refuse, room_yes, room_no, wrote_no, wrote_yes}
-use Rattle.serializer.specs.Written.{joined, trimmed, composite_header, composite_of}
-use Rattle.performatives.specs.Performative.{Described, described, items_of, Performative, performative, said}
+use Rattle.serializer.specs.Written.{trimmed, composite_header}
+use Rattle.performatives.specs.Performative.{Described, described, Performative, performative, said}
 use Rattle.performatives.specs.declared.Described as C
 use Rattle.performatives.specs.declared.Described.TheVariants.{List as Lists, Malformed as NoList}
 use Rattle.performatives.specs.Answers.{described_says}
@@ -33,7 +31,7 @@ use Rattle.frame_decoder.proofs.Laws.{session_was, sendable_was, body_is as fram
 use Rattle.session_frame.specs.declared.field.Kept.{Kept}
 use Rattle.session_frame.specs.declared.Plan.{Plan}
 use Rattle.session_frame.specs.Session.{performative_written, session_bytes, write_session}
-use Rattle.session_frame.specs.Parts.{fields_from, written_from, Checked, kept_of, planned, plan_bytes, Planned, write_body}
+use Rattle.session_frame.specs.Parts.{fields_from, written_from, Checked, kept_of, plan_bytes, Planned, write_body}
 use Rattle.session_frame.proofs.Trim.{trimmed_short}
 use Rattle.session_frame.proofs.Errors.{header_length, items_from_lem, items_end}
 use Rattle.session_frame.proofs.Walk.{from_length}

@@ -8,7 +8,7 @@ use Rattle.values.specs.Value.{value_end}
 use Rattle.values.specs.Null.{null, is_null}
 use Rattle.serializer.specs.Written.{text, joined, trimmed, composite_header, composite_of}
 use Rattle.performatives.specs.Fields.{FieldType, Any, UShort, UInt, String, Error, Field, fields_of}
-use Rattle.performatives.specs.Performative.{Described, described, items_of, split, performative}
+use Rattle.performatives.specs.Performative.{Described, described, split, performative}
 use Rattle.frame_encoder.specs.Frames.{frame_header, frame_bytes, limited}
 use Rattle.session_frame.specs.declared.field.Size.{Size}
 use Rattle.session_frame.specs.declared.field.Kept.{Kept}
