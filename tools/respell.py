@@ -12,7 +12,7 @@ import glob
 import re
 
 HEAD = re.compile(r"^(\s*)((?:pub |abbrev |unfoldable |data |record |ruleset |tactic )*)([^\s:(){}=,]+(?: [^\s:(){}=,]+)*) (:|=)(?=\s)")
-OLD = re.compile(r"[A-Za-z0-9]-[A-Za-z0-9]|^[a-z].*[a-z0-9][A-Z]|′")
+OLD = re.compile(r"[A-Za-z0-9]-[A-Za-z0-9]|^[a-z][A-Z]|^[a-z].*[a-z0-9][A-Z]|′")
 TOKEN = re.compile(r"[^\s(){}\[\],;.:`]+")
 
 

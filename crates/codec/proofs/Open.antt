@@ -4,7 +4,7 @@ use mathlib.Core.Path.{◌≡◌, refl, ap, ◌∙◌}
 use mathlib.Core.Bool.{true, false}
 use mathlib.Core.List.{List, [], ◌++◌}
 use mathlib.Core.Option.{Option, none, some}
-use Prim.Native.Nat.{ℕ, suc, ◌+◌, ◌^◌, ◌<◌, ◌≤◌}
+use Prim.Native.Nat.{ℕ, suc, ◌^◌, ◌<◌, ◌≤◌}
 use native.Mathlib.Omega.{arith}
 use lib.ListN.{length, get_or, length-append, get_or-eq_default}
 use Rattle.octets.specs.Verdict.{accept}
@@ -14,7 +14,7 @@ use Rattle.values.proofs.Written.{Whole, Each}
 use Rattle.serializer.specs.Written.{uint, ushort, text, joined, trimmed, composite_header, composite}
 use Rattle.serializer.proofs.Laws.{text_len_short, header_few}
 use Rattle.performatives.specs.Fields.{UShort, UInt, String, fields_in, fields_of}
-use Rattle.performatives.specs.Performative.{fits, fit, number_or, max_frame_size, channel_max, idle_time_out}
+use Rattle.performatives.specs.Performative.{fits, fit, number_or}
 use Rattle.frame_decoder.specs.Frame.{read_frame}
 use Rattle.frame_encoder.specs.Frames.{Settings, settings_ok, idle_field, open_fields, open_body, frame_bytes}
 use Rattle.frame_encoder.proofs.Laws.{length_frame, Within, settings_within}

@@ -22,7 +22,7 @@ use Rattle.connection_model.specs.Connection.{Role, Connection, connection, rele
 use Rattle.connection_model.specs.Account.{when, limits_show, account}
 use Rattle.connection_model.specs.Callers.{is_valid, are_valid, Valid}
 use Rattle.connection_model.proofs.Valid.{both}
-use Rattle.connection_model.proofs.ProbeFrames.{framed, an_open, aClose, aDetach, detached}
+use Rattle.connection_model.proofs.ProbeFrames.{framed, an_open, a_close, a_detach}
 use Rattle.connection_model.proofs.Probes.{space, space_slice, refused_with, refuses, bars, amqp, frame_valid, send_header_told, receive_header_told, send_open_told, send_close_told, read_open_told, read_close_told, read_detach_told, allocate_told, number_valid, length_told, transfer_of, transfer_valid, transfer_told, at, close_next, detach_read, passed_told, released_told, head_told, absent_told}
 
 -- ---- premises
@@ -134,8 +134,8 @@ module _ (role : Role) (S : Settings) (c d : Connection) (i : Reachable S c) (j 
       ∷ sign_both 20 (send_open_to space) space_slice _ (send_open_told role S) z
       ∷ sign_both 20 (send_close_to none space) space_slice _ (send_close_told role S) z
       ∷ sign_both 20 (receive_frame (frame_bytes 0 an_open) 0) (frame_valid 0 an_open refl (omega arith)) _ (read_open_told role S) z
-      ∷ sign_both 20 (receive_frame (frame_bytes 0 aClose) 0) (frame_valid 0 aClose refl (omega arith)) _ (read_close_told role S) z
-      ∷ sign_both 20 (receive_frame (frame_bytes 0 aDetach) 0) (frame_valid 0 aDetach refl (omega arith)) _ (read_detach_told role S) z
+      ∷ sign_both 20 (receive_frame (frame_bytes 0 a_close) 0) (frame_valid 0 a_close refl (omega arith)) _ (read_close_told role S) z
+      ∷ sign_both 20 (receive_frame (frame_bytes 0 a_detach) 0) (frame_valid 0 a_detach refl (omega arith)) _ (read_detach_told role S) z
       ∷ sign_both 22 (allocate 0) refl _ (allocate_told role S) z
       ∷ []
 
@@ -167,8 +167,8 @@ module _ (role : Role) (S : Settings) (c d : Connection) (i : Reachable S c) (j 
   closed_both : SameAt OpenReceived → SameAt CloseReceived
   closed_both same =
       subst (λ e. Same role S e (at CloseReceived m d)) (close_next role S l c i.reading_low)
-      (subst (Same role S (next role S (at OpenReceived l c) (receive_frame (frame_bytes 0 aClose) 0))) (close_next role S m d j.reading_low)
-      (later role S (at OpenReceived l c) (at OpenReceived m d) same (receive_frame (frame_bytes 0 aClose) 0) (frame_valid 0 aClose refl (omega arith))))
+      (subst (Same role S (next role S (at OpenReceived l c) (receive_frame (frame_bytes 0 a_close) 0))) (close_next role S m d j.reading_low)
+      (later role S (at OpenReceived l c) (at OpenReceived m d) same (receive_frame (frame_bytes 0 a_close) 0) (frame_valid 0 a_close refl (omega arith))))
 
   transfer_both : (x : State) → is_one_of sending x ≡ true → SameAt x → c.writing_limit ≡ d.writing_limit
   transfer_both x sends same =
@@ -204,7 +204,7 @@ module _ (role : Role) (S : Settings) (few : S.channel_max < 65536) where
   handle_both n le l m c d low low' same =
       passed_told (framed 15 n) 22 (c.ties n) (d.ties n)
       (ap answered (sym (detach_read role S l c n low le (omega arith)))
-      ∙ one role S (at Opened l c) (at Opened m d) same (receive_frame (frame_bytes n aDetach) 0) (frame_valid n aDetach refl (omega arith))
+      ∙ one role S (at Opened l c) (at Opened m d) same (receive_frame (frame_bytes n a_detach) 0) (frame_valid n a_detach refl (omega arith))
       ∙ ap answered (detach_read role S m d n low' le (omega arith)))
 
   freed_next : (ch h : ℕ) (l : Option (List ℕ)) (c : Connection) → c.taken ch ≡ some h → next role S (at Opened l c) (deallocate ch) ≡ at Opened (freed_first ch l) (freeing ch c)

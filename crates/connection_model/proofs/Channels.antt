@@ -1,20 +1,18 @@
 -- Channel numbers: the taken ones and the hand-out list together are 0 to the limit, each once; the list is what allocating gives in turn until it is refused;
 -- freed numbers come first, latest first, then those never used, ascending; a freed number takes along the ties that were made through it, and no others. The limit is a parameter.
 -- Assumes nothing.
-use mathlib.Core.Path.{◌≡◌, refl, sym, ◌∙◌, ap, subst}
-use mathlib.Core.Bool.{Bool, true, false, cond, not}
+use mathlib.Core.Path.{◌≡◌, refl, ◌∙◌, ap, subst}
+use mathlib.Core.Bool.{not}
 use mathlib.Core.List.{List, [], ◌∷◌, ◌++◌}
 use mathlib.Core.Option.{Option, none, some}
-use Prim.Native.Nat.{ℕ, zero, suc, ◌+◌, ◌-◌, ◌≤◌, ◌<◌}
+use Prim.Native.Nat.{ℕ, zero, suc, ◌-◌, ◌≤◌}
 use native.Mathlib.Omega.{arith}
-use native.Mathlib.Decide.{dec_le, ℕ_discrete}
-use lib.Dec.{T, leb, eqb, leb→le, eqb→eq}
+use lib.Dec.{T}
 use lib.ListN.{length}
-use borrow.Author.Tests.{le-leb, lt-leb, eq-eqb, ne_eqb}
 use Rattle.octets.specs.Verdict.{Verdict, refuse, accept}
 use Rattle.frame_encoder.specs.Frames.{Settings}
 use Rattle.connection_state.specs.States.{is_one_of, stopped}
-use Rattle.channels.specs.Numbers.{Map, nowhere, with, up_from, freed_first, one, is_taken, count, EachOnce, Shared}
+use Rattle.channels.specs.Numbers.{up_from, freed_first}
 use Rattle.channels.specs.Ties.{dropped}
 use Rattle.connection_model.specs.Connection.{Role, Connection, fresh, Call, allocate, deallocate, Answer, channel, Effect, stay, go, agree, take, give, tie, take_and_tie, Outcome, apply, given, released, decide, Seen, answered, after, next, run, seen_in}
 use Rattle.connection_model.proofs.Rules.{Holds, refused, holds, require_passed, Legit, Lawful, lawful, lends_any}

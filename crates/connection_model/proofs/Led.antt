@@ -4,7 +4,7 @@ use mathlib.Core.Path.{◌≡◌, refl, ◌∙◌, ap, subst}
 use mathlib.Core.Bool.{Bool, true, false, cond}
 use mathlib.Core.List.{List, [], ◌∷◌, ◌++◌}
 use mathlib.Core.Option.{Option, none, some}
-use Prim.Native.Nat.{ℕ, ◌+◌, ◌≤◌}
+use Prim.Native.Nat.{ℕ, ◌≤◌}
 use native.Mathlib.Omega.{arith}
 use lib.Dec.{T, leb, eqb}
 use lib.ListN.{length, length-append}
@@ -21,10 +21,10 @@ use Rattle.serializer.proofs.Laws.{text_len_short, header_few}
 use Rattle.frame_encoder.specs.Frames.{Settings, ErrorText, frame_header, frame_bytes, limited, idle_field, open_fields, open_body, error_ok, close_ok, description_field, error_fields, error_field, close_body}
 use Rattle.frame_encoder.proofs.Laws.{length_frame}
 use Rattle.session_frame.proofs.Trim.{trimmed_short}
-use Rattle.connection_state.specs.States.{State, Start, HeaderReceived, HeaderSent, HeaderExchange, OpenPipe, OpenClosePipe, OpenReceived, OpenSent, ClosePipe, Opened, CloseReceived, CloseSent, Discarding, End, is, is_one_of, along, send_header, receive_header, receive_other_header, send_open, send_close, send_close_with_error, read_close, after_open}
-use Rattle.connection_model.specs.Connection.{Role, Connection, connection, fresh, Call, send_header_to, receive_header_from, send_open_to, receive_frame, send_close_to, go, apply, frame_read, closes, after, next, run}
+use Rattle.connection_state.specs.States.{State, Start, HeaderReceived, HeaderSent, HeaderExchange, OpenPipe, OpenClosePipe, OpenReceived, OpenSent, ClosePipe, Opened, CloseReceived, CloseSent, Discarding, End, is_one_of, along, send_header, receive_header, receive_other_header, send_open, send_close, send_close_with_error, read_close, after_open}
+use Rattle.connection_model.specs.Connection.{Role, Connection, fresh, Call, send_header_to, receive_header_from, send_open_to, receive_frame, send_close_to, go, apply, frame_read, closes, after, next, run}
 use Rattle.connection_model.proofs.Valid.{both}
-use Rattle.connection_model.proofs.ProbeFrames.{aClose, close_content, read_whole}
+use Rattle.connection_model.proofs.ProbeFrames.{a_close, close_content, read_whole}
 use Rattle.connection_model.proofs.Probes.{space, space_room, amqp, amqp_received}
 
 -- ---- lists of calls
@@ -157,9 +157,9 @@ module _ (role : Role) (S : Settings) where
 
     pub read_close_lem : 512 ≤ c.reading_limit → along read_close x ≡ accept y → Led role S (at x c) (at y c)
     read_close_lem low e =
-        by (at x c) (receive_frame (frame_bytes 0 aClose) 0)
+        by (at x c) (receive_frame (frame_bytes 0 a_close) 0)
         (ap (λ v. after S v (at x c))
-        (then_accept _ (frame_read role S (at x c) 0) _ (read_whole 0 aClose (omega arith) (omega arith) c.reading_limit S.channel_max _ close_content (omega arith) (omega arith))
+        (then_accept _ (frame_read role S (at x c) 0) _ (read_whole 0 a_close (omega arith) (omega arith) c.reading_limit S.channel_max _ close_content (omega arith) (omega arith))
         ∙ then_accept (along read_close x) _ y e))
 
   -- ---- without the peer's Open

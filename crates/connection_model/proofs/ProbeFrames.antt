@@ -91,11 +91,11 @@ module _ (limit highest n : ℕ) (low : 8 ≤ n) (high : n < 4294967296) where
 abbrev pub an_open : List ℕ
 an_open = 0 ∷ 0x53 ∷ 0x10 ∷ 0xc0 ∷ 3 ∷ 1 ∷ 0xa1 ∷ 0 ∷ []
 
-abbrev pub aClose : List ℕ
-aClose = 0 ∷ 0x53 ∷ 0x18 ∷ 0x45 ∷ []
+abbrev pub a_close : List ℕ
+a_close = 0 ∷ 0x53 ∷ 0x18 ∷ 0x45 ∷ []
 
-abbrev pub aDetach : List ℕ
-aDetach = 0 ∷ 0x53 ∷ 0x16 ∷ 0xc0 ∷ 2 ∷ 1 ∷ 0x43 ∷ []
+abbrev pub a_detach : List ℕ
+a_detach = 0 ∷ 0x53 ∷ 0x16 ∷ 0xc0 ∷ 2 ∷ 1 ∷ 0x43 ∷ []
 
 -- what is read of them
 abbrev pub read : ℕ → List (List ℕ) → ℕ → ℕ → Performative
@@ -110,23 +110,23 @@ closed = read 24 [] 4 4
 abbrev pub detached : Performative
 detached = read 22 ((0x43 ∷ []) ∷ []) 6 7
 
-contents : (content an_open ≡ accept (some opened)) × (content aClose ≡ accept (some closed)) × (content aDetach ≡ accept (some detached))
+contents : (content an_open ≡ accept (some opened)) × (content a_close ≡ accept (some closed)) × (content a_detach ≡ accept (some detached))
 unfolding content performative performative_by fields_by described descriptor require and_then starts_with value_end run level after_code kind_of kind_in codes times followed_by plus body bytes number_of big_endian big_endian_from list_at sized opening number_in paired_in fields_of fields_in rows_for split variable_end fit fits has_type
 contents = (refl, refl, refl)
 
 pub open_content : content an_open ≡ accept (some opened)
 open_content = contents.0
 
-pub close_content : content aClose ≡ accept (some closed)
+pub close_content : content a_close ≡ accept (some closed)
 close_content = contents.1
 
-pub detach_content : content aDetach ≡ accept (some detached)
+pub detach_content : content a_detach ≡ accept (some detached)
 detach_content = contents.2
 
 -- ---- a Transfer of handle 0 with a payload, to be sent
 
-abbrev pub aTransfer : List ℕ → List ℕ
-aTransfer payload = 0 ∷ 0x53 ∷ 0x14 ∷ 0xc0 ∷ 2 ∷ 1 ∷ 0x43 ∷ payload
+abbrev pub a_transfer : List ℕ → List ℕ
+a_transfer payload = 0 ∷ 0x53 ∷ 0x14 ∷ 0xc0 ∷ 2 ∷ 1 ∷ 0x43 ∷ payload
 
 abbrev pub transferred : Performative
 transferred = read 20 ((0x43 ∷ []) ∷ []) 6 7
@@ -142,19 +142,19 @@ opening_of t =
     opening_is list 1 (2 ∷ 1 ∷ 0x43 ∷ t) 2 1
     (record { sized = number_is 1 (2 ∷ 1 ∷ 0x43 ∷ t) (omega arith); fits = omega arith; counted = number_is 1 (1 ∷ 0x43 ∷ []) (omega arith); paired = refl })
 
-described_is : (t : List ℕ) → described (aTransfer t) ≡ accept (record { code = 20; count = 1; from = 6; end = 7 })
+described_is : (t : List ℕ) → described (a_transfer t) ≡ accept (record { code = 20; count = 1; from = 6; end = 7 })
 unfolding described descriptor require and_then starts_with number_of big_endian big_endian_from list_at sized
 described_is t = rw (descriptor_is (0xc0 ∷ 2 ∷ 1 ∷ 0x43 ∷ t)) (rw (opening_of t))
 
-transfer_read : (t : List ℕ) → performative (aTransfer t) ≡ accept transferred
+transfer_read : (t : List ℕ) → performative (a_transfer t) ≡ accept transferred
 unfolding performative performative_by fields_by require and_then starts_with value_end run level after_code kind_of kind_in codes times followed_by plus body bytes fields_of fields_in rows_for split fit fits has_type
 transfer_read t = rw (described_is t)
 
-pub transfer_session : (highest : ℕ) (t : List ℕ) → session_performative highest (aTransfer t) ≡ accept transferred
+pub transfer_session : (highest : ℕ) (t : List ℕ) → session_performative highest (a_transfer t) ≡ accept transferred
 unfolding session_performative require and_then
 transfer_session highest t = rw (transfer_read t)
 
 -- sent, it is written as it stands
-pub transfer_bytes : (t : List ℕ) → 15 + length t < 4294967296 → session_bytes (frame_bytes 0 (aTransfer t)) (framed (8 + length (aTransfer t)) 0, transferred) ≡ frame_bytes 0 (aTransfer t)
+pub transfer_bytes : (t : List ℕ) → 15 + length t < 4294967296 → session_bytes (frame_bytes 0 (a_transfer t)) (framed (8 + length (a_transfer t)) 0, transferred) ≡ frame_bytes 0 (a_transfer t)
 unfolding session_bytes performative_written fields_of fields_in written_fields written_as shortest starts_with composite trimmed joined composite_header list_header
-transfer_bytes t h = rw (body_is 0 (aTransfer t) (omega arith) (omega arith))
+transfer_bytes t h = rw (body_is 0 (a_transfer t) (omega arith) (omega arith))

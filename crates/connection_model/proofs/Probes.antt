@@ -14,7 +14,6 @@ use Rattle.octets.specs.Octets.{bytes_of}
 use Rattle.octets.specs.Output.{room_for}
 use Rattle.octets.proofs.Laws.{require_on, then_accept, then_refuse, length_bytes_of, room_yes}
 use Rattle.protocol_header.specs.Header.{amqp100, is_protocol_id, protocol_id, starts_with_all, header, has_id, is_amqp100, protocol, received}
-use Rattle.performatives.specs.Performative.{Performative}
 use Rattle.frame_decoder.specs.Frame.{Frame, read_frame}
 use Rattle.frame_encoder.specs.Frames.{Settings, frame_bytes, limited}
 use Rattle.frame_encoder.proofs.Laws.{length_frame}
@@ -23,7 +22,7 @@ use Rattle.channels.specs.Ties.{Tie, handle_of}
 use Rattle.connection_model.specs.Connection.{Role, dialler, listener, Connection, connection, send_header_to, receive_header_from, send_open_to, receive_frame, send_close_to, send_session_frame, allocate, Answer, channel, Effect, stay, go, Outcome, says, writes, pass_on, frame_read, tied_by, session_sent, given, released, decide, answered, after, next}
 use Rattle.connection_model.specs.Callers.{are_bytes, is_slice, is_valid}
 use Rattle.connection_model.proofs.Valid.{both, slice_is, slice_frame, slice_replicate, bytes_replicate, bytes_number}
-use Rattle.connection_model.proofs.ProbeFrames.{framed, an_open, aClose, aDetach, detached, aTransfer, transferred, open_content, close_content, detach_content, read_whole, read_length, sent_whole, transfer_session, transfer_bytes}
+use Rattle.connection_model.proofs.ProbeFrames.{framed, an_open, a_close, a_detach, a_transfer, transferred, open_content, close_content, detach_content, read_whole, read_length, sent_whole, transfer_session, transfer_bytes}
 
 -- ---- the output that is lent to them
 
@@ -131,16 +130,16 @@ module _ (role : Role) (S : Settings) (c : Connection) (low : 512 ≤ c.reading_
       ∙ discard_told (is Discarding c.state) _ _
       ∙ ap (cond (is Discarding c.state) false) (moves_told read_open c.state _ (λ y. refl))
 
-  pub read_close_told : refuses 20 (decide role S c (receive_frame (frame_bytes 0 aClose) 0)) ≡ bars read_close c.state
+  pub read_close_told : refuses 20 (decide role S c (receive_frame (frame_bytes 0 a_close) 0)) ≡ bars read_close c.state
   read_close_told =
-      ap (refuses 20) (then_accept _ _ _ (read_whole 0 aClose (omega arith) (omega arith) c.reading_limit S.channel_max _ close_content (omega arith) (omega arith)))
+      ap (refuses 20) (then_accept _ _ _ (read_whole 0 a_close (omega arith) (omega arith) c.reading_limit S.channel_max _ close_content (omega arith) (omega arith)))
       ∙ moves_told read_close c.state _ (λ y. refl)
 
-  pub read_detach_told : refuses 20 (decide role S c (receive_frame (frame_bytes 0 aDetach) 0)) ≡ cond (is Discarding c.state) false (not (is_one_of reading c.state))
+  pub read_detach_told : refuses 20 (decide role S c (receive_frame (frame_bytes 0 a_detach) 0)) ≡ cond (is Discarding c.state) false (not (is_one_of reading c.state))
   read_detach_told =
-      ap (refuses 20) (then_accept _ _ _ (read_whole 0 aDetach (omega arith) (omega arith) c.reading_limit S.channel_max _ detach_content (omega arith) (omega arith)))
+      ap (refuses 20) (then_accept _ _ _ (read_whole 0 a_detach (omega arith) (omega arith) c.reading_limit S.channel_max _ detach_content (omega arith) (omega arith)))
       ∙ discard_told (is Discarding c.state) _ _
-      ∙ ap (cond (is Discarding c.state) false) (require_told 20 (is_one_of reading c.state) _ (pass_told _ _ (c.ties 0)))
+      ∙ ap (cond (is Discarding c.state) false) (require_told 20 (is_one_of reading c.state) _ (pass_told (framed 15 0) _ (c.ties 0)))
 
   pub allocate_told : refuses 22 (decide role S c (allocate 0)) ≡ not (not (is_one_of stopped c.state))
   allocate_told = require_told 22 (not (is_one_of stopped c.state)) _ (given_told 0 c.hand_out)
@@ -163,15 +162,15 @@ length_told role S c n low high =
 
 -- n bytes in all, with a payload of zeros
 abbrev pub transfer_of : ℕ → List ℕ
-transfer_of n = frame_bytes 0 (aTransfer (replicate (n - 15) 0))
+transfer_of n = frame_bytes 0 (a_transfer (replicate (n - 15) 0))
 
 transfer_length : (n : ℕ) → 15 ≤ n → length (transfer_of n) ≡ n
-transfer_length n low = omega (arith, length_frame 0 (aTransfer (replicate (n - 15) 0)), length-replicate {A = ℕ} (n - 15) 0)
+transfer_length n low = omega (arith, length_frame 0 (a_transfer (replicate (n - 15) 0)), length-replicate {A = ℕ} (n - 15) 0)
 
 pub transfer_valid : (n : ℕ) → n ≤ 16384 → is_valid (send_session_frame (transfer_of n) space) ≡ true
 transfer_valid n high =
     both (is_slice (transfer_of n)) (is_slice space)
-    (slice_frame 0 (aTransfer (replicate (n - 15) 0)) (bytes_replicate (n - 15) 0 (omega arith)) (omega (arith, length-replicate {A = ℕ} (n - 15) 0))) space_slice
+    (slice_frame 0 (a_transfer (replicate (n - 15) 0)) (bytes_replicate (n - 15) 0 (omega arith)) (omega (arith, length-replicate {A = ℕ} (n - 15) 0))) space_slice
 
 untied : (role : Role) (ch : ℕ) (h : Option ℕ) → tied_by role [] ch h ≡ accept stay
 untied dialler ch h = refl
@@ -189,7 +188,7 @@ module _ (role : Role) (S : Settings) (c : Connection) (sends : is_one_of sendin
       let k : length t ≡ n - 15 = length-replicate {A = ℕ} (n - 15) 0 in
       let l : length (transfer_of n) ≡ n = transfer_length n low in
       require_on 9 (room_for 0 space) _ space_room
-      ∙ then_accept _ (session_sent role c (transfer_of n)) _ (sent_whole 0 (aTransfer t) (omega arith) (omega arith) S.channel_max transferred (transfer_session S.channel_max t))
+      ∙ then_accept _ (session_sent role c (transfer_of n)) _ (sent_whole 0 (a_transfer t) (omega arith) (omega arith) S.channel_max transferred (transfer_session S.channel_max t))
       ∙ require_on 20 (is_one_of sending c.state) _ sends
       ∙ then_accept _ _ stay (untied role 0 (c.taken 0))
       ∙ rw (transfer_bytes t (omega arith), l)
@@ -202,19 +201,19 @@ abbrev pub at : State → Option (List ℕ) → Connection → Connection
 at x l c = connection x c.reading_limit c.writing_limit c.agreed_max l c.taken c.ties
 
 -- no session's frame is sent in OpenReceived; a Close that is read there leads to CloseReceived, where they are sent
-pub close_next : (role : Role) (S : Settings) (l : Option (List ℕ)) (c : Connection) → 512 ≤ c.reading_limit → next role S (at OpenReceived l c) (receive_frame (frame_bytes 0 aClose) 0) ≡ at CloseReceived l c
+pub close_next : (role : Role) (S : Settings) (l : Option (List ℕ)) (c : Connection) → 512 ≤ c.reading_limit → next role S (at OpenReceived l c) (receive_frame (frame_bytes 0 a_close) 0) ≡ at CloseReceived l c
 unfolding and_then
 close_next role S l c low =
     ap (λ v. after S v (at OpenReceived l c))
-    (then_accept _ (frame_read role S (at OpenReceived l c) 0) _ (read_whole 0 aClose (omega arith) (omega arith) c.reading_limit S.channel_max _ close_content (omega arith) (omega arith)))
+    (then_accept _ (frame_read role S (at OpenReceived l c) 0) _ (read_whole 0 a_close (omega arith) (omega arith) c.reading_limit S.channel_max _ close_content (omega arith) (omega arith)))
 
 -- ---- the handle of a tie, by a Detach on its channel
 
 pub detach_read : (role : Role) (S : Settings) (l : Option (List ℕ)) (c : Connection) (n : ℕ) → 512 ≤ c.reading_limit → n ≤ S.channel_max → n < 65536
-    → decide role S (at Opened l c) (receive_frame (frame_bytes n aDetach) 0) ≡ pass_on (framed 15 n) 22 (c.ties n)
+    → decide role S (at Opened l c) (receive_frame (frame_bytes n a_detach) 0) ≡ pass_on (framed 15 n) 22 (c.ties n)
 unfolding require
 detach_read role S l c n low held few =
-    then_accept _ (frame_read role S (at Opened l c) 0) _ (read_whole n aDetach (omega arith) (omega arith) c.reading_limit S.channel_max _ detach_content (omega arith) held)
+    then_accept _ (frame_read role S (at Opened l c) 0) _ (read_whole n a_detach (omega arith) (omega arith) c.reading_limit S.channel_max _ detach_content (omega arith) held)
 
 pub passed_told : (f : Frame) (code : ℕ) (o u : Option Tie) → answered (pass_on f code o) ≡ answered (pass_on f code u) → handle_of o ≡ handle_of u
 passed_told f p none none e = refl

@@ -1,21 +1,20 @@
 -- A frame that is read: how many bytes are consumed, and which part of the caller's bytes goes on to a session.
 -- Assumes nothing.
 use mathlib.Core.Path.{◌≡◌, refl, sym, ◌∙◌, ap, ap₂, subst}
-use mathlib.Core.Bool.{Bool, cond}
 use mathlib.Core.List.{List, [], ◌∷◌}
 use mathlib.Core.Option.{Option, none, some}
 use Prim.Native.Nat.{ℕ, ◌-◌, ◌≤◌}
 use lib.Dec.{eqb}
 use lib.ListN.{take, drop}
-use Rattle.octets.specs.Verdict.{Verdict, refuse, accept, and_then}
+use Rattle.octets.specs.Verdict.{Verdict, accept}
 use Rattle.values.proofs.Apart.{then_was}
-use Rattle.performatives.specs.Performative.{Performative, max_frame_size, channel_max, idle_time_out, remote_channel, condition}
+use Rattle.performatives.specs.Performative.{Performative, remote_channel}
 use Rattle.frame_decoder.specs.Frame.{Frame, size_of, body_in, body_of, any_size, any_channel, read_frame}
 use Rattle.frame_decoder.proofs.Laws.{frame_was, read_was, body_is}
 use Rattle.frame_encoder.specs.Frames.{Settings}
 use Rattle.connection_state.specs.States.{Discarding, is, is_one_of, along, reading, read_open, read_close}
 use Rattle.channels.specs.Ties.{Tie}
-use Rattle.connection_model.specs.Connection.{Role, dialler, listener, Connection, receive_frame, Answer, wrote, stop, header, other_protocol, nothing_to_do, opened, closed, forward, began, channel, freed, Outcome, tie_to, untie, pass_on, new_session, begun, session_read, performative_read, frame_read, decide}
+use Rattle.connection_model.specs.Connection.{Role, dialler, listener, Connection, receive_frame, Answer, wrote, stop, header, other_protocol, nothing_to_do, opened, closed, forward, began, channel, freed, Outcome, tie_to, untie, pass_on, new_session, begun, session_read, frame_read, decide}
 use Rattle.connection_model.proofs.Rules.{Holds, refused, holds, on_require, on_cond, on_any, accepted}
 
 -- the frame's length is consumed, and a body that goes on is the frame's

@@ -1,22 +1,20 @@
 -- A property of what a rule accepts, carried through the parts of a rule; and what every rule knows of the effect that it asks for.
 -- What the codec answers to given bytes is a variable here: of a read frame and of a session's frame only the bounds on their channels are used.
 -- Assumes nothing.
-use mathlib.Core.Path.{◌≡◌, refl, sym, ◌∙◌, ap, subst}
+use mathlib.Core.Path.{◌≡◌, refl, subst}
 use mathlib.Core.Bool.{Bool, true, false, cond, not, ◌&&◌}
 use mathlib.Core.List.{List, [], ◌∷◌}
 use mathlib.Core.Option.{Option, none, some}
-use Prim.Native.Nat.{ℕ, zero, suc, ◌≤◌}
+use Prim.Native.Nat.{ℕ, ◌≤◌}
 use native.Mathlib.Omega.{arith}
-use lib.Dec.{T, leb, eqb, leb→le, eqb→eq}
-use lib.ListN.{get_or}
-use borrow.Author.Tests.{eq-eqb}
+use lib.Dec.{T, leb, eqb, leb→le}
 use Rattle.octets.specs.Verdict.{Verdict, refuse, accept, require, and_then}
 use Rattle.protocol_header.specs.Header.{Protocol, amqp100, other, received}
 use Rattle.performatives.specs.Performative.{Performative, performative, remote_channel}
 use Rattle.frame_decoder.specs.Frame.{Frame, frame, content, body_in, read_frame, within, begins_for, any_size, any_channel, session_performative, session_frame}
 use Rattle.frame_encoder.specs.Frames.{Settings, ErrorText, limited}
 use Rattle.session_frame.specs.Session.{session_bytes}
-use Rattle.connection_state.specs.States.{State, Start, HeaderReceived, HeaderSent, HeaderExchange, OpenPipe, OpenClosePipe, OpenReceived, OpenSent, ClosePipe, Opened, CloseReceived, CloseSent, Discarding, End, numbered, is, is_one_of, Move, ◌⇒◌, along, send_header, receive_header, receive_other_header, send_open, read_open, send_close, send_close_with_error, read_close, reading, sending, before_open, after_open, silent}
+use Rattle.connection_state.specs.States.{State, Start, HeaderReceived, HeaderSent, HeaderExchange, OpenPipe, OpenClosePipe, OpenReceived, OpenSent, ClosePipe, Opened, CloseReceived, CloseSent, Discarding, End, is, is_one_of, Move, ◌⇒◌, along, send_header, receive_header, receive_other_header, send_open, read_open, send_close, send_close_with_error, read_close, reading, sending, before_open, after_open, silent}
 use Rattle.connection_state.proofs.States.{is_state}
 pub use Rattle.connection_state.proofs.States.{and_left, and_right, each, everywhere}
 use Rattle.channels.specs.Ties.{Tie, tie_of}

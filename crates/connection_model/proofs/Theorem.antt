@@ -11,7 +11,6 @@ use mathlib.Core.Path.{◌≡◌}
 use mathlib.Core.Logic.{◌↔◌}
 use mathlib.Core.Bool.{true}
 use mathlib.Core.List.{List}
-use Prim.Native.Nat.{ℕ, ◌≤◌}
 use native.Mathlib.Omega.{arith}
 use Rattle.frame_encoder.specs.Frames.{Settings, settings_ok}
 use Rattle.frame_encoder.proofs.Laws.{settings_within}

@@ -1,25 +1,24 @@
 -- Worked lists of calls, computed from the definitions.
 -- Assumes nothing.
 use mathlib.Core.Path.{◌≡◌, refl}
-use mathlib.Core.Bool.{Bool, true, false}
-use mathlib.Core.List.{List, [], ◌∷◌, ◌++◌, map}
-use mathlib.Core.Option.{Option, none, some}
+use mathlib.Core.Bool.{false}
+use mathlib.Core.List.{List, [], ◌∷◌, ◌++◌}
+use mathlib.Core.Option.{none, some}
 use Prim.Native.Nat.{ℕ}
 use lib.ListN.{replicate}
 use Rattle.octets.specs.Verdict.{Verdict, refuse, accept, require, and_then}
 use Rattle.octets.specs.Octets.{big_endian_from, big_endian, bytes_of, starts_with}
-use Rattle.octets.specs.Output.{room_for, laid}
-use Rattle.protocol_header.specs.Header.{is_protocol_id, protocol_id, starts_with_all, header as header_of, has_id, is_amqp100, protocol, received, header_bytes, write_header}
+use Rattle.octets.specs.Output.{room_for}
+use Rattle.protocol_header.specs.Header.{is_protocol_id, protocol_id, starts_with_all, header as header_of, has_id, is_amqp100, protocol, received, header_bytes}
 use Rattle.values.specs.Value.{plus, followed_by, times, codes, kind_in, kind_of, bytes as bytes_at, number_in, boolean_end, variable_end, paired_in, opening, items, compound_end, body, after_code, level, run as run_of, value_end}
 use Rattle.performatives.specs.Fields.{fields_in, fields_of}
-use Rattle.performatives.specs.Performative.{descriptor, performative_by, fields_by, number_of, sized, list_at, described, split, error_shape, is_error, has_type, fits, fit, rows_for, performative, number_or, remote_channel, start_of, condition_at, condition, values_in, values_of}
+use Rattle.performatives.specs.Performative.{descriptor, performative_by, fields_by, number_of, sized, list_at, described, split, error_shape, is_error, has_type, fits, fit, rows_for, performative, number_or, remote_channel, start_of, condition_at, condition}
 use Rattle.frame_decoder.specs.Frame.{frame, body_in, content, read_frame, session_performative, session_frame}
 use Rattle.serializer.specs.Written.{uint, ushort, text_header, text, list_header, joined, trimmed, composite_header, composite}
 use Rattle.frame_encoder.specs.Frames.{Settings, frame_header, frame_bytes, limited, idle_field, open_fields, error_field}
 use Rattle.session_frame.specs.Session.{shortest, written_as, written_fields, performative_written, session_bytes}
-use Rattle.connection_state.specs.States.{State, Opened}
 use Rattle.channels.specs.Ties.{tie_of}
-use Rattle.connection_model.specs.Connection.{dialler, listener, fresh, Call, send_header_to, receive_header_from, send_open_to, receive_frame, send_close_to, send_session_frame, allocate, deallocate, tick, Answer, wrote, stop, header, nothing_to_do, opened, closed, forward, channel, freed, Seen, run, seen_in}
+use Rattle.connection_model.specs.Connection.{dialler, listener, fresh, Call, send_header_to, receive_header_from, send_open_to, receive_frame, send_close_to, send_session_frame, allocate, deallocate, tick, Answer, wrote, stop, header, opened, closed, forward, channel, freed, Seen, run, seen_in}
 
 abbrev answers_of : List Seen → List (Verdict Answer)
 answers_of [] = []

@@ -2,7 +2,7 @@
 -- document 02, wish 7: a tie goes with the channel through which it was made).
 -- Calls carry what a caller passes: bytes, numbers, and the lent output with the bytes that stand there. A rule is a verdict: a refusal, or an outcome.
 -- Assumes nothing: these are definitions.
-use Rattle.std.specs.Prelude.{Bool, true, false, cond, not, List, [], ◌∷◌, ◌++◌, ℕ, zero, suc, ◌+◌, ◌-◌, min, max, length, leb, eqb}
+use Rattle.std.specs.Prelude.{Bool, true, false, cond, not, List, [], ◌∷◌, ℕ, suc, ◌-◌, min, max, length, eqb}
 use Rattle.std.proofs.Math.Option.{Option, none, some}
 use Rattle.octets.specs.Verdict.{Verdict, refuse, accept, require, and_then}
 use Rattle.octets.specs.Output.{room_for, laid}
