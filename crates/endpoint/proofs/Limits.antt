@@ -10,7 +10,7 @@ use native.Mathlib.Omega.{arith}
 use lib.Dec.{leb, eqb}
 use borrow.Author.Tests.{leb-true, le-leb, lt-leb, eq-eqb, ne_eqb}
 use Rattle.frame_encoder.specs.Frames.{Settings}
-use Rattle.connection_state.specs.States.{State, is, is_one_of, before_open, after_open}
+use Rattle.connection_state.specs.States.{State, is_one_of, before_open, after_open}
 use Rattle.connection_model.specs.Connection.{Connection}
 use Rattle.connection_model.specs.Sound.{Reached}
 use Rattle.channels.specs.Numbers.{taken_below}

@@ -24,7 +24,7 @@ use Rattle.connection_state.specs.Answers.{state_says}
 use Rattle.connection_model.specs.Connection.{Answer, Outcome, says, apply, stay, take, tie, forwarded, began, given, released, begun, new_session, tie_to, untie, pass_on, session_read}
 use Rattle.channels.specs.Channels.{held_says, allocated_says, next_of, Allocates, Frees}
 use Rattle.channels.specs.Ties.{Tie, tie_of, handle_of, dropped}
-use Rattle.channels.specs.Lists.{LowTie, Changes, Drops}
+use Rattle.channels.specs.Lists.{Changes, Drops}
 use Rattle.channels.specs.declared.Held.{Held}
 use Rattle.channels.specs.declared.Held.TheVariants.{Handle, Nothing}
 use Rattle.channels.specs.declared.OutgoingChannels.{OutgoingChannels}

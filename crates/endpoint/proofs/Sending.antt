@@ -29,7 +29,6 @@ use Rattle.frame_decoder.specs.declared.Frame as F
 use Rattle.frame_decoder.specs.declared.Frame.TheVariants.{Refused as NotRead, Empty, Body}
 use Rattle.frame_decoder.specs.Frame.{Frame, FrameSaid, within, begins_for, session_frame, session_said}
 use Rattle.frame_decoder.specs.Answers.{ending_at, frame_says, session_answer}
-use Rattle.frame_decoder.specs.contracts.Frame.{the_type as frame-type}
 use Rattle.frame_decoder.proofs.Laws.{session_sendable}
 use Rattle.frame_encoder.specs.Frames.{limited}
 use Rattle.session_frame.specs.Session.{session_bytes, write_session}
@@ -157,10 +156,10 @@ pub writes_24 :
 writes_24 self t to v r out e n id = sends_not self t id r 24 out (λ i. refused_all (tie_says to) v 24 (ap tie_says e)) n
 
 -- a tie that was found
-makes : (to : OutgoingTie) → OneOf (0 ∷ 1 ∷ []) (tag_of tie-type to) → (e : Effect) × (tie_says to ≡ accept e)
+makes : (to : OutgoingTie) → (to ≡ NotFound → ⊥) → (e : Effect) × (tie_says to ≡ accept e)
 makes Stay o = (stay, refl)
 makes (To n ch h) o = (tie n (some (tie_of ch h)), refl)
-makes NotFound o = absurd (miss (0 ∷ 1 ∷ []) 2 tt o)
+makes NotFound o = absurd (o refl)
 
 both : (t : Verdict Effect) (v : Verdict (List ℕ)) (e : Effect) → t ≡ accept e → ties_and_writes t v ≡ and_then v (λ bytes. writes bytes e)
 unfolding ties_and_writes
@@ -177,7 +176,7 @@ unfolding counted O.written
 is_counted (refuse j) n e = apart (cc)
 is_counted (accept bytes) n e = (bytes, refl, cc)
 
-module _ (self : Endpoint) (t : List ℕ) (to : OutgoingTie) (found : OneOf (0 ∷ 1 ∷ []) (tag_of tie-type to)) (v : Verdict (List ℕ)) (a : Written) (out o : List ℕ) (w : Wrote v a out o) where
+module _ (self : Endpoint) (t : List ℕ) (to : OutgoingTie) (found : to ≡ NotFound → ⊥) (v : Verdict (List ℕ)) (a : Written) (out o : List ℕ) (w : Wrote v a out o) where
   pub writes_not : (k : ℕ) → a ≡ NotWritten k → (id : List ℕ) → Send (ties_and_writes (tie_says to) v) (whole self t id) (sent_says a) (whole self t id) out o
   unfolding laid
   writes_not k q id =
@@ -231,14 +230,14 @@ said_not (accept r) k e = apart (cc)
 said_body : (v : Verdict (Frame × Performative)) (x : FrameSaid) → and_then v (λ r. accept (session_said r)) ≡ accept x → (r : Frame × Performative) × (v ≡ accept r) × (session_said r ≡ x)
 said_body v x e = let a = then_was v _ x e in (a.0, a.1, cc)
 
-unread : (highest : ℕ) (s : List ℕ) (f : F.Frame) → frame_says f ≡ session_answer highest s → (k : ℕ) → k ≡ refusal_of f → OneOf (0 ∷ 1 ∷ []) (tag_of frame-type f) → session_frame highest s ≡ refuse k
+unread : (highest : ℕ) (s : List ℕ) (f : F.Frame) → frame_says f ≡ session_answer highest s → (k : ℕ) → k ≡ refusal_of f → ((c z b : ℕ) (p : P.Performative) (n : ℕ) → f ≡ Body c z b p n → ⊥) → session_frame highest s ≡ refuse k
 unfolding session_answer
 unread highest s (NotRead j) e k q o = said_not (session_frame highest s) k (sym e ∙ ap refuse (sym q))
 unread highest s (Empty c z b) e k q o =
     let a = said_body (session_frame highest s) _ (sym e) in
     let w : ◌≡◌ {A = Option Said} (some (said a.0.1)) none = ap (λ (x : FrameSaid). x.content) a.2 in
     apart (cc)
-unread highest s (Body c z b p n) e k q o = absurd (miss (0 ∷ 1 ∷ []) 2 tt o)
+unread highest s (Body c z b p n) e k q o = absurd (o c z b p n refl)
 
 within_known : (highest : ℕ) (x : Performative) (b : Bool) → eqb x.code 17 ≡ b → (x.code ≡ 17 → within highest (begins_for true x) ≡ true) → within highest (begins_for b x) ≡ true
 within_known highest x true e h = h (eqb-true x.code 17 e)
@@ -309,7 +308,7 @@ module _ (self : Endpoint) (t : List ℕ) (x : State) (s out : List ℕ) where
     frame_first id = require_on 9 _ _ roomy ∙ rw m
 
     pub send_unread :
-        (r : SessionSent) (k : ℕ) → k ≡ refusal_of f → OneOf (0 ∷ 1 ∷ []) (tag_of frame-type f) → (r.answer ≡ NotWritten k) × (r.endpoint ≡ self)
+        (r : SessionSent) (k : ℕ) → k ≡ refusal_of f → ((c z b : ℕ) (p : P.Performative) (n : ℕ) → f ≡ Body c z b p n → ⊥) → (r.answer ≡ NotWritten k) × (r.endpoint ≡ self)
         → (id : List ℕ) → Send (rule id) (whole self t id) (sent_says r.answer) (whole r.endpoint t id) out out
     send_unread r k q o n id = sends_not self t id r k out (λ i. frame_first id ∙ then_refuse (session_frame highest s) _ k (unread highest s f e k q o)) n
 

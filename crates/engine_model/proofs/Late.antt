@@ -1,7 +1,7 @@
 -- Frames of a session on both sides of the freeing of its channel: the order End, the peer's End, free, and what a late frame does otherwise. Computed from the definitions.
 -- Assumes nothing.
 use mathlib.Core.Path.{◌≡◌, refl}
-use mathlib.Core.List.{List, [], ◌∷◌, ◌++◌}
+use mathlib.Core.List.{List, [], ◌∷◌}
 use mathlib.Core.Option.{none, some}
 use Prim.Native.Nat.{ℕ}
 use lib.ListN.{length}
