@@ -6,8 +6,6 @@ use mathlib.Core.List.{List, [], ◌∷◌}
 use mathlib.Core.Option.{Option, none, some}
 use Prim.Native.Nat.{ℕ, ◌≤◌, ◌<◌, min}
 use native.Mathlib.Omega.{arith}
-use types.Run.{OneOf, miss}
-use denote.Enum.Declared.{tag_of}
 use lib.Dec.{leb, eqb}
 use borrow.Author.Tests.{eqb-true, le-leb}
 use Rattle.octets.specs.Verdict.{Verdict, refuse, accept, require, and_then}
@@ -23,7 +21,6 @@ use Rattle.performatives.specs.declared.Performative as P
 use Rattle.performatives.specs.declared.Performative.TheVariants.{Open, Begin, Attach, Flow, Transfer, Disposition, Detach, End, Close}
 use Rattle.performatives.specs.declared.Condition.{Condition}
 use Rattle.performatives.specs.Answers.{performative_says, condition_says}
-use Rattle.performatives.specs.contracts.Performative.{the_type}
 use Rattle.protocol_header.specs.Header.{Protocol, amqp100, other, received}
 use Rattle.protocol_header.specs.Answers as H
 use Rattle.protocol_header.specs.declared.HeaderRead.{HeaderRead}
@@ -168,7 +165,7 @@ bare_body r ch size from end p e = sym (ap bare_says e)
 
 -- ---- which performative it is not
 
-pub not_close : (p : P.Performative) → OneOf (0 ∷ 1 ∷ 2 ∷ 3 ∷ 4 ∷ 5 ∷ 6 ∷ 7 ∷ []) (tag_of the_type p) → eqb (performative_says p).0 24 ≡ false
+pub not_close : (p : P.Performative) → ((e : Condition) → p ≡ Close e → ⊥) → eqb (performative_says p).0 24 ≡ false
 not_close (Open a b c) h = refl
 not_close (Begin r) h = refl
 not_close Attach h = refl
@@ -177,10 +174,10 @@ not_close Transfer h = refl
 not_close Disposition h = refl
 not_close (Detach e) h = refl
 not_close (End e) h = refl
-not_close (Close e) h = absurd (miss (0 ∷ 1 ∷ 2 ∷ 3 ∷ 4 ∷ 5 ∷ 6 ∷ 7 ∷ []) 8 tt h)
+not_close (Close e) h = absurd (h e refl)
 
-pub not_open : (p : P.Performative) → OneOf (1 ∷ 2 ∷ 3 ∷ 4 ∷ 5 ∷ 6 ∷ 7 ∷ 8 ∷ []) (tag_of the_type p) → eqb (performative_says p).0 16 ≡ false
-not_open (Open a b c) h = absurd (miss (1 ∷ 2 ∷ 3 ∷ 4 ∷ 5 ∷ 6 ∷ 7 ∷ 8 ∷ []) 0 tt h)
+pub not_open : (p : P.Performative) → ((a b c : ℕ) → p ≡ Open a b c → ⊥) → eqb (performative_says p).0 16 ≡ false
+not_open (Open a b c) h = absurd (h a b c refl)
 not_open (Begin r) h = refl
 not_open Attach h = refl
 not_open Flow h = refl
@@ -359,7 +356,7 @@ module _ (c : Connection) where
         subst (λ k. Reads (said_read (role_of w) (settings_of w) (view_of w) f h (performative_says k).0 (performative_says k).1) w a (whole d t id)) (sym q)
         (subst (λ x. Reads (close_read (view_of w) f x) w a (whole d t id)) v (r t id))
 
-    pub by_discarding : OneOf (0 ∷ 1 ∷ 2 ∷ 3 ∷ 4 ∷ 5 ∷ 6 ∷ 7 ∷ []) (tag_of the_type p) → (b : Bool) → b ≡ is Discarding (state_says c.local_state) → b ≡ true → ReadsIn by_kind c t (accept (nothing_to_do f.size)) c t
+    pub by_discarding : ((e : Condition) → p ≡ Close e → ⊥) → (b : Bool) → b ≡ is Discarding (state_says c.local_state) → b ≡ true → ReadsIn by_kind c t (accept (nothing_to_do f.size)) c t
     by_discarding n b e x id =
         accepted_reads (by_kind (whole c t id)) (whole c t id) (whole c t id) _ stay (λ z. rw (not_close p n, sym e, x)) (λ z. refl) (λ z. z.held) (same_all (endpoint_in (whole c t id)))
 
@@ -373,8 +370,8 @@ module _ (c : Connection) where
         (subst (λ b. Reads (cond b (says (nothing_to_do f.size) stay) (open_read (settings_of w) (view_of w) f size most idle)) w a (whole d t id)) (sym x) (r t id))
 
     pub by_session :
-        (t' : List ℕ) (a : Verdict Answer) (d : Connection) → OneOf (0 ∷ 1 ∷ 2 ∷ 3 ∷ 4 ∷ 5 ∷ 6 ∷ 7 ∷ []) (tag_of the_type p) → (b : Bool) → b ≡ is Discarding (state_says c.local_state) → b ≡ false
-        → OneOf (1 ∷ 2 ∷ 3 ∷ 4 ∷ 5 ∷ 6 ∷ 7 ∷ 8 ∷ []) (tag_of the_type p)
+        (t' : List ℕ) (a : Verdict Answer) (d : Connection) → ((e : Condition) → p ≡ Close e → ⊥) → (b : Bool) → b ≡ is Discarding (state_says c.local_state) → b ≡ false
+        → ((a b c : ℕ) → p ≡ Open a b c → ⊥)
         → ReadsIn (λ w. session_read (role_of w) (view_of w) f h (performative_says p).0 (performative_says p).1) c t a d t' → ReadsIn by_kind c t a d t'
     by_session t' a d n b e y m r id = subst (λ u. Reads u (whole c t id) a (whole d t' id)) (sym (rw (not_close p n, sym e, y, not_open p m))) (r id)
 

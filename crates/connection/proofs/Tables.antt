@@ -2,11 +2,9 @@
 -- Assumes nothing.
 use mathlib.Core.Path.{◌≡◌, refl, sym, ◌∙◌, ap, subst}
 use mathlib.Core.Bool.{Bool, true, false, not}
-use mathlib.Core.List.{List, [], ◌∷◌}
+use mathlib.Core.List.{List, []}
 use Prim.Native.Nat.{ℕ, suc, ◌≤◌, ◌<◌}
 use native.Mathlib.Omega.{arith}
-use types.Run.{OneOf, miss}
-use denote.Enum.Declared.{tag_of}
 use lib.ListN.{length}
 use Rattle.octets.specs.Verdict.{Verdict, refuse, accept, and_then}
 use Rattle.octets.specs.Output.{room_for}
@@ -18,7 +16,6 @@ use Rattle.frame_decoder.specs.Frame.{Frame, read_frame}
 use Rattle.frame_decoder.specs.Answers.{frame_says, frame_answer}
 use Rattle.frame_decoder.specs.declared.Frame as F
 use Rattle.frame_decoder.specs.declared.Frame.TheVariants.{Refused as NotRead, Empty, Body}
-use Rattle.frame_decoder.specs.contracts.Frame.{the_type}
 use Rattle.connection_state.specs.States.{is_one_of, stopped}
 use Rattle.connection_state.specs.Answers.{state_says}
 use Rattle.channels.specs.Places.{covers}
@@ -146,7 +143,7 @@ module _ (c : Connection) (t : List ℕ) where
     read_as : (id : List ℕ) → and_then (read_frame limit highest s) (frame_read (role_of (whole c t id)) (settings_of (whole c t id)) (view_of (whole c t id)) h) ≡ comes_to (whole c t id) (receive_frame s h)
     read_as id = λ i. and_then (read_frame (l i) (m i) s) (frame_read (role_of (whole c t id)) (settings_of (whole c t id)) (view_of (whole c t id)) h)
 
-    by_frame : (x : F.Frame) → r ≡ x → (a : Verdict Answer) → OneOf (0 ∷ 1 ∷ []) (tag_of the_type x) → a ≡ bare_says x → (id : List ℕ) → Does (receive_frame s h) (whole c t id) a [] (whole c t id)
+    by_frame : (x : F.Frame) → r ≡ x → (a : Verdict Answer) → ((ch size from : ℕ) (p : Performative) (end : ℕ) → x ≡ Body ch size from p end → ⊥) → a ≡ bare_says x → (id : List ℕ) → Does (receive_frame s h) (whole c t id) a [] (whole c t id)
     by_frame (NotRead j) p a o q id =
         refuses (receive_frame s h) (whole c t id) _ j a [] (λ z. sym (read_as id) ∙ then_refuse _ _ j (answer_refused limit highest s j (sym (ap frame_says p) ∙ e))) q refl refl
     by_frame (Empty ch size from) p a o q id =
@@ -155,10 +152,10 @@ module _ (c : Connection) (t : List ℕ) where
         (reads_does (receive_frame s h) w w (says (M.nothing_to_do size) stay) (accept (M.nothing_to_do size)) refl (quiet_nothing size)
         (λ z. sym (read_as id) ∙ empty_comes limit highest s ch size from (role_of w) (settings_of w) (view_of w) h (sym (ap frame_says p) ∙ e))
         (accepted_reads (says (M.nothing_to_do size) stay) w w _ stay (λ z. refl) (λ z. refl) (λ z. z.held) (same_all (endpoint_in w))))
-    by_frame (Body ch size from p end) q a o w id = absurd (miss (0 ∷ 1 ∷ []) 2 tt o)
+    by_frame (Body ch size from p end) q a o w id = absurd (o ch size from p end refl)
 
     -- it is refused, or there is nothing to do
-    pub bare : (a : Verdict Answer) → OneOf (0 ∷ 1 ∷ []) (tag_of the_type r) → a ≡ bare_says r → (id : List ℕ) → DoesIn (receive_frame s h) (whole c t id) a [] (whole c t id)
+    pub bare : (a : Verdict Answer) → ((ch size from : ℕ) (p : Performative) (end : ℕ) → r ≡ Body ch size from p end → ⊥) → a ≡ bare_says r → (id : List ℕ) → DoesIn (receive_frame s h) (whole c t id) a [] (whole c t id)
     bare a o q id = covered_does (receive_frame s h) (whole c t id) _ a [] refl (sym k ∙ y) (by_frame r refl a o q id)
 
     -- it has a performative

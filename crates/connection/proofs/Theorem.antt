@@ -146,7 +146,7 @@ record Ran (calls : List Call) (w : Whole) : Type 0 where
   runs : Runs calls w seens later
 
 runs_on : Returns → (calls : List Call) → Valid calls → (w : Whole) → Slices w → Ran calls w
-runs_on all [] ok w s = record { seens = []; later = w; runs = done }
+runs_on all [] fine w s = record { seens = []; later = w; runs = done }
 runs_on all (call ∷ calls) ok w s =
     let n : Next call w = all call (first (is_valid call) (are_valid calls) ok) w s in
     let m : Ran calls n.later = runs_on all calls (rest (is_valid call) (are_valid calls) ok) n.later (step_slices n.step n.later_slice s) in
