@@ -10,6 +10,7 @@
 set -euo pipefail
 verb="$1" name="${2-}"
 command -v rt > /dev/null || { echo "prove.sh: the Rattle toolchain (rt) is not on the PATH" >&2; exit 1; }
+toolchain="$(rt version)"
 
 # The crates of crates.txt, and what each stands on; of these those that NAME is made of.
 declare -A on=()
@@ -25,7 +26,7 @@ collect() { # CRATE: it and what it stands on, lowest first
 # The sum of what a crate is made of, and of the files that are named besides, where they are there.
 sum_of() { # CRATE [FILE..]
     {
-        rt version
+        echo "$toolchain"
         echo "$1:${on[$1]}"
         find "crates/$1" \( -path '*/must-fail' -o -path '*/out' \) -prune -o -type f -print0 | sort -z | xargs -0 sha256sum
         for file in "${@:2}"; do [ ! -f "$file" ] || sha256sum "$file"; done
