@@ -15,7 +15,7 @@ use Rattle.octets.proofs.Laws.{require_on, require_off, room_yes, room_no}
 use Rattle.octets.specs.declared.Written.{Written}
 use Rattle.octets.specs.declared.Written.TheVariants.{Bytes, Refused as NotWritten}
 use Rattle.performatives.specs.Performative.{Performative}
-use Rattle.frame_decoder.specs.Frame.{Frame, frame, body_in, any_size, any_channel, session_performative, session_frame, begins_for}
+use Rattle.frame_decoder.specs.Frame.{Frame, body_in, any_size, any_channel, session_performative, session_frame, begins_for}
 use Rattle.frame_encoder.specs.Frames.{limited}
 use Rattle.session_frame.specs.Session.{session_bytes}
 use Rattle.connection_model.specs.Connection as K

@@ -12,6 +12,7 @@ use denote.Enum.Declared.{tag_of}
 use Rattle.octets.specs.Verdict.{Verdict, refuse, accept, and_then}
 use Rattle.performatives.specs.Performative as P
 use Rattle.performatives.specs.declared.Performative.{Performative}
+use Rattle.performatives.specs.declared.Condition.{Condition}
 use Rattle.performatives.specs.declared.Performative.TheVariants.{Open, Begin, Attach, Flow, Transfer, Disposition, Detach, End, Close}
 use Rattle.performatives.specs.contracts.Performative.{the_type as performative-type}
 use Rattle.performatives.specs.Answers.{performative_says}
@@ -19,7 +20,6 @@ use Rattle.frame_decoder.specs.Frame.{FrameSaid, read_frame, frame_said}
 use Rattle.frame_decoder.specs.Frame as F
 use Rattle.frame_decoder.specs.declared.Frame as D
 use Rattle.frame_decoder.specs.declared.Frame.TheVariants.{Refused as NotRead, Empty, Body}
-use Rattle.frame_decoder.specs.contracts.Frame.{the_type as frame-type}
 use Rattle.frame_decoder.specs.Answers.{frame_says, frame_answer}
 use Rattle.connection_state.specs.States as S
 use Rattle.connection_state.specs.States.{is}
@@ -105,12 +105,12 @@ module _ (limit highest : ℕ) (s : List ℕ) (f : D.Frame) (e : frame_says f �
   unfolding frame_answer
   close_is = ap said_close e ∙ close_said (read_frame limit highest s)
 
-  none_said : (g : D.Frame) → OneOf (0 ∷ 1 ∷ []) (tag_of frame-type g) → false ≡ said_close (frame_says g)
+  none_said : (g : D.Frame) → ((channel size from : ℕ) (p : Performative) (end : ℕ) → g ≡ Body channel size from p end → ⊥) → false ≡ said_close (frame_says g)
   none_said (NotRead k) o = refl
   none_said (Empty channel size from) o = refl
-  none_said (Body channel size from p end) o = absurd (miss (0 ∷ 1 ∷ []) 2 tt o)
+  none_said (Body channel size from p end) o = absurd (o channel size from p end refl)
 
-  pub close_none : OneOf (0 ∷ 1 ∷ []) (tag_of frame-type f) → false ≡ is_close (read_frame limit highest s)
+  pub close_none : ((channel size from : ℕ) (p : Performative) (end : ℕ) → f ≡ Body channel size from p end → ⊥) → false ≡ is_close (read_frame limit highest s)
   close_none o = none_said f o ∙ close_is
 
   close_code : (p : Performative) → OneOf (8 ∷ []) (tag_of performative-type p) → true ≡ eqb (performative_says p).0 24
@@ -124,7 +124,7 @@ module _ (limit highest : ℕ) (s : List ℕ) (f : D.Frame) (e : frame_says f �
   close_code (End a) o = absurd (miss (8 ∷ []) 7 tt o)
   close_code (Close a) o = refl
 
-  other_code : (p : Performative) → OneOf (0 ∷ 1 ∷ 2 ∷ 3 ∷ 4 ∷ 5 ∷ 6 ∷ 7 ∷ []) (tag_of performative-type p) → false ≡ eqb (performative_says p).0 24
+  other_code : (p : Performative) → ((x : Condition) → p ≡ Close x → ⊥) → false ≡ eqb (performative_says p).0 24
   other_code (Open a b c) o = refl
   other_code (Begin a) o = refl
   other_code Attach o = refl
@@ -133,12 +133,12 @@ module _ (limit highest : ℕ) (s : List ℕ) (f : D.Frame) (e : frame_says f �
   other_code Disposition o = refl
   other_code (Detach a) o = refl
   other_code (End a) o = refl
-  other_code (Close a) o = absurd (miss (0 ∷ 1 ∷ 2 ∷ 3 ∷ 4 ∷ 5 ∷ 6 ∷ 7 ∷ []) 8 tt o)
+  other_code (Close a) o = absurd (o a refl)
 
   pub close_body_is : (channel size from end : ℕ) (p : Performative) → f ≡ Body channel size from p end → OneOf (8 ∷ []) (tag_of performative-type p) → true ≡ is_close (read_frame limit highest s)
   close_body_is channel size from end p q o = close_code p o ∙ ap (λ g. said_close (frame_says g)) (sym q) ∙ close_is
 
-  pub other_body : (channel size from end : ℕ) (p : Performative) → f ≡ Body channel size from p end → OneOf (0 ∷ 1 ∷ 2 ∷ 3 ∷ 4 ∷ 5 ∷ 6 ∷ 7 ∷ []) (tag_of performative-type p) → false ≡ is_close (read_frame limit highest s)
+  pub other_body : (channel size from end : ℕ) (p : Performative) → f ≡ Body channel size from p end → ((x : Condition) → p ≡ Close x → ⊥) → false ≡ is_close (read_frame limit highest s)
   other_body channel size from end p q o = other_code p o ∙ ap (λ g. said_close (frame_says g)) (sym q) ∙ close_is
 
 -- ---- what it consumes
@@ -233,16 +233,16 @@ module _ (x : S.State) (c : Connection) (n : ℕ) (out : List ℕ) where
             (subst (λ u. Lands (M.fail (View.role_of w) (View.settings_of w) u (View.view_of w) bytes lent) lent out' (landed_in l t id)) (e ∙ ap (λ u. read_fault (role_says u) k) r) ((f t id).fails z bytes lent m o y y'));
       }
 
-  taken_is : (a : FrameAnswer) → OneOf (0 ∷ 1 ∷ 2 ∷ 3 ∷ 4 ∷ []) (tag_of answer-type a) → (b : K.Answer) × (answer_says a ≡ accept b)
+  taken_is : (a : FrameAnswer) → ((k : ℕ) → a ≡ Refused k → ⊥) → (b : K.Answer) × (answer_says a ≡ accept b)
   taken_is (NothingToDo m) o = (K.nothing_to_do m, refl)
   taken_is (Opened m idle) o = (K.opened m idle, refl)
   taken_is (Closed m error) o = (K.closed m error, refl)
   taken_is (Forward m code h from len) o = (K.forward m code h from len, refl)
   taken_is (Began m ch h from len) o = (K.began m ch h from len, refl)
-  taken_is (Refused k) o = absurd (miss (0 ∷ 1 ∷ 2 ∷ 3 ∷ 4 ∷ []) 5 tt o)
+  taken_is (Refused k) o = absurd (o k refl)
 
   pub leads_on :
-      (a : FrameAnswer) (y : ConnectionState) (p : Phase) → OneOf (0 ∷ 1 ∷ 2 ∷ 3 ∷ 4 ∷ []) (tag_of answer-type a) → y ≡ c.local_state → phase_says p ≡ phase_read (close_of (answer_says a)) x (state_says y)
+      (a : FrameAnswer) (y : ConnectionState) (p : Phase) → ((k : ℕ) → a ≡ Refused k → ⊥) → y ≡ c.local_state → phase_says p ≡ phase_read (close_of (answer_says a)) x (state_says y)
       → Leads a out (record { phase = p; written = n; connection = c })
   leads_on a y p o s e t id =
       let b = taken_is a o in

@@ -37,7 +37,6 @@ use Rattle.engine.specs.declared.OnIncoming.{OnIncoming}
 use Rattle.engine.specs.declared.Outcome.{Outcome}
 use Rattle.engine.specs.declared.Phase.{Phase}
 use Rattle.engine.specs.declared.Phase.TheVariants.{Running, Awaiting, Stopped}
-use Rattle.engine.specs.contracts.Phase.{the_type}
 use Rattle.engine.specs.declared.Running.TheVariants.{Refused as NotRun}
 use Rattle.engine.specs.Answers.{Whole, whole, connection_in, role_of, settings_of, view_of, Sound, phase_says, outcome_says, goes_on, reply_says}
 use Rattle.engine.specs.Promises.{Does, DoesIn, LandedIn, landed_in, Lands, LeadsTo, awaited_by, consumed_for}
@@ -73,12 +72,12 @@ module _ (e : ConnectionEngine) (s : List ℕ) (a : Verdict Answer) (c : Connect
             (record { lands_phase = h; lands_connection = refl; lands_count = refl; lands_output = sym (laid_is [] lent) });
       }
 
-  running_by : (p : Phase) → OneOf (0 ∷ 2 ∷ []) (tag_of the_type p) → is_stopped (phase_says p) ≡ false → phase_says p ≡ M.running
+  running_by : (p : Phase) → ((x : Outcome) → p ≡ Awaiting x → ⊥) → is_stopped (phase_says p) ≡ false → phase_says p ≡ M.running
   running_by Running o st = refl
-  running_by (Awaiting x) o st = absurd (miss (0 ∷ 2 ∷ []) 1 tt o)
+  running_by (Awaiting x) o st = absurd (o x refl)
   running_by (Stopped x) o st = let z : ◌≡◌ {A = ℕ} 0 1 = cc in absurd (omega arith)
 
-  module _ (o : OneOf (0 ∷ 2 ∷ []) (tag_of the_type e.phase)) (x : ConnectionState) (sx : x ≡ c.local_state) (b : Bool)
+  module _ (o : (x : Outcome) → e.phase ≡ Awaiting x → ⊥) (x : ConnectionState) (sx : x ≡ c.local_state) (b : Bool)
       (bx : (t id : List ℕ) → b ≡ answers_close (View.view_of (connection_in (whole e t id))).reading_limit (View.settings_of (connection_in (whole e t id))).channel_max s (state_says x)) where
     flag_is : (t id : List ℕ) → b ≡ answers_in t id (state_says c.local_state)
     flag_is t id = bx t id ∙ ap (λ y. answers_in t id (state_says y)) sx

@@ -27,7 +27,6 @@ use Rattle.connection.specs.declared.DeallocateAnswer.TheVariants.{Freed, Refuse
 use Rattle.connection.specs.contracts.DeallocateAnswer.{the_type as deallocate-type}
 use Rattle.connection.specs.declared.TickAnswer.{TickAnswer}
 use Rattle.connection.specs.declared.TickAnswer.TheVariants.{Wrote, Stop as Idle, Refused as NotTicked}
-use Rattle.connection.specs.contracts.TickAnswer.{the_type as tick-type}
 use Rattle.engine_model.specs.Engine as M
 use Rattle.engine_model.specs.Engine.{Event, Reply, well, lent, is_running, settled, ended_in, replied, landed, has_room}
 use Rattle.engine.specs.declared.ConnectionEngine.{ConnectionEngine}
@@ -255,7 +254,7 @@ module _ (e : ConnectionEngine) (b : Bool) (ends : b ≡ not (is_running (phase_
 
   pub tick_done :
       (out out' : List ℕ) (a : TickAnswer) (x : Connection) (d : ConnectionEngine) (r : R.Running) → b ≡ false → ((t id : List ℕ) → C.Does (K.tick out) (View.whole e.connection t id) (tick_says a) out' (View.whole x t id))
-      → OneOf (0 ∷ 1 ∷ []) (tag_of tick-type a) → Settles x d → r ≡ goes_on d.phase → (t id : List ℕ) → Does (M.tick out) (whole e t id) (reply_says r 0 (tick_count a) (some (tick_says a))) out' (whole d t id)
+      → ((k : ℕ) → a ≡ NotTicked k → ⊥) → Settles x d → r ≡ goes_on d.phase → (t id : List ℕ) → Does (M.tick out) (whole e t id) (reply_says r 0 (tick_count a) (some (tick_says a))) out' (whole d t id)
   tick_done out out' (Wrote n) x d r f p o s q = tick_well out out' (K.wrote n) x d r n f p refl s q
   tick_done out out' Idle x d r f p o s q = tick_well out out' K.stop x d r 0 f p refl s q
-  tick_done out out' (NotTicked k) x d r f p o s q = absurd (miss (0 ∷ 1 ∷ []) 2 tt o)
+  tick_done out out' (NotTicked k) x d r f p o s q = absurd (o k refl)

@@ -26,7 +26,7 @@ use Rattle.engine.specs.declared.NewEngine.{NewEngine}
 use Rattle.engine.specs.declared.NewEngine.TheVariants.{Made, Refused}
 use Rattle.engine.specs.declared.ResumedEngine.{ResumedEngine}
 use Rattle.engine.specs.declared.ResumedEngine.TheVariants.{Is, Broken}
-use Rattle.engine.specs.Answers.{Whole, whole, engine_of, connection_in, role_of, settings_of, view_of, Sound, phase_says, goes_on}
+use Rattle.engine.specs.Answers.{Whole, engine_of, connection_in, role_of, settings_of, view_of, Sound, phase_says, goes_on}
 
 -- the event draws this reply, leaves this output, and leads to this engine, as the definition has it
 pub record Meets (event : Event) (before : Whole) (r : Verdict Reply) (out : List ℕ) (later : Whole) : Type 0 where

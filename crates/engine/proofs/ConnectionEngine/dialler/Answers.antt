@@ -1,0 +1,7 @@
+-- `dialler`: the connection is made, and the engine runs with it.
+-- Assumes nothing.
+use Rattle.engine.proofs.Making.{makes}
+use Rattle.engine.proofs.ConnectionEngine.dialler.Goals as goal
+
+pub returns : goal.returns
+returns c = makes _ _ _ _ _ _ c.dialler-made.ensures c.running_with.ensures
