@@ -8,7 +8,7 @@ use Prim.Native.Nat.{ℕ}
 use lib.Dec.{eqb}
 use borrow.Author.Tests.{eq-eqb, ne_eqb}
 use Rattle.octets.specs.Octets.{put}
-use Rattle.engine_model.specs.Engine.{Outcome, running, awaiting, stopped}
+use Rattle.engine_model.specs.Engine.{running, awaiting, stopped}
 use Rattle.engine.specs.declared.Outcome as E
 use Rattle.engine.specs.declared.Phase.{Phase}
 use Rattle.engine.specs.Answers.{outcome_says, phase_says}
