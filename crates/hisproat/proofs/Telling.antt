@@ -37,7 +37,7 @@ use Rattle.engine.specs.declared.Running.TheVariants.{Continue, Refused}
 use Rattle.engine.specs.Answers.{reply_says, opening_says, sent_count, tick_count}
 use Rattle.hisproat.specs.declared.answers.Inner as I
 use Rattle.hisproat.specs.declared.answers.Done.{Done}
-use Rattle.hisproat.specs.Answers.{flagged, Inner, inner, inner_of}
+use Rattle.hisproat.specs.Answers.{flagged, inner, inner_of}
 use Rattle.hisproat.specs.Promises.{inner_says, HeaderRuns, Amounts}
 
 -- ---- numbers
