@@ -21,7 +21,7 @@ use Rattle.engine_model.specs.Engine.{Engine, Event, fresh, seen, next, lent}
 use Rattle.engine_model.proofs.Alike.{AlikeInside, alike_seen, alike_next, accounts_alike_inside}
 use Rattle.engine_bytes.specs.Bytes.{state_size, StandFor}
 use Rattle.hisproat.specs.Crossing.{Crossing, Shown, shown, saw, fits_in, Crosses, Made, Makes}
-use Rattle.hisproat.specs.Lists.{Called, shows_on, next_in, run_in_is, shown_in}
+use Rattle.hisproat.specs.Lists.{Called, shows_on, next_in, run_in, shown_in}
 use Rattle.hisproat.proofs.Runs.{SendHeader, ReceiveHeader, SendOpen, OnIncoming, OnClose, OnCloseWithError, OnAllocate, OnDeallocate, OnOutgoing, OnTick, OnEndOfInput, OnNotDelivered, Step, send_header_step, receive_header_step, send_open_step, on_incoming_step, on_close_step, on_close_with_error_step, on_allocate_step, on_deallocate_step, on_outgoing_step, on_tick_step, on_end_of_input_step, on_not_delivered_step, New, dialled, listened, Runs, done, then}
 
 -- ---- what the contracts say
@@ -118,7 +118,7 @@ module _ (role : Role) (S : Settings) where
       by true t = subst then_stands (sym t) ((step_crosses step).stands t role S e z).leads
       by false t = subst then_stands (sym t) (subst (λ x. StandFor x role S e) (sym (ap (λ (x : Crossing). x.state) ((step_crosses step).short t))) z)
 
-  pub leads_to : {calls : List Called} {s t : List ℕ} {shows : List Shown} → Runs calls s shows t → (e : Engine) → StandFor s role S e → StandFor t role S (run_in_is role S e calls)
+  pub leads_to : {calls : List Called} {s t : List ℕ} {shows : List Shown} → Runs calls s shows t → (e : Engine) → StandFor s role S e → StandFor t role S (run_in role S e calls)
   leads_to done e z = z
   leads_to (then step more) e z = leads_to more _ (goes_on_lem step e z)
 
@@ -152,7 +152,7 @@ module _ (role : Role) (S : Settings) where
 pub alike_for_ever :
     (role : Role) (S : Settings) (s t : List ℕ) → New role S s → New role S t
     → (p q : List Called) (xs ys : List Shown) (s' t' : List ℕ) → Runs p s xs s' → Runs q t ys t'
-    → (run_in_is role S fresh p).phase ≡ (run_in_is role S fresh q).phase → account (run_in_is role S fresh p).connection ≡ account (run_in_is role S fresh q).connection
+    → (run_in role S fresh p).phase ≡ (run_in role S fresh q).phase → account (run_in role S fresh p).connection ≡ account (run_in role S fresh q).connection
     → (later : List Called) (us vs : List Shown) (s'' t'' : List ℕ) → Runs later s' us s'' → Runs later t' vs t'' → us ≡ vs
 alike_for_ever role S s t new-s new-t p q xs ys s' t' to-s to-t phase same later us vs s'' t'' u v =
     let a = leads_to role S to-s fresh (new_stands role S s new-s) in

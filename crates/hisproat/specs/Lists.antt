@@ -20,9 +20,9 @@ shows_on role S e call =
 abbrev pub next_in : Role → Settings → Engine → Called → Engine
 next_in role S e call = cond (fits_in call.event call.answer) (next role S e call.event) e
 
-abbrev pub run_in_is : Role → Settings → Engine → List Called → Engine
-run_in_is role S e [] = e
-run_in_is role S e (call ∷ calls) = run_in_is role S (next_in role S e call) calls
+abbrev pub run_in : Role → Settings → Engine → List Called → Engine
+run_in role S e [] = e
+run_in role S e (call ∷ calls) = run_in role S (next_in role S e call) calls
 
 abbrev pub shown_in : Role → Settings → Engine → List Called → List Shown
 shown_in role S e [] = []
