@@ -25,7 +25,7 @@ import tempfile
 from pathlib import Path
 
 CONSEQUENCE = "was not admitted"  # of an error that only follows from another
-SHAPE = re.compile(r"that can be named from here|has no field|is not in scope")
+SHAPE = re.compile(r"that can be named from here|has no field|is not in scope(?! here, so what is shown)")
 NO_GOAL = re.compile(r"^`goal\.[^`]+`: module `\S+\.Goals`\s+has no ")  # of an answer to a goal that is gone
 PROVED = ("proved", "no holes")
 PARTS = ("src", "specs", "proofs")
