@@ -1,11 +1,12 @@
 #!/usr/bin/env python3
 """Holds the reading and writing of frames to bounds on instructions: so many for each byte that is there, and none for what a frame only claims.
 Usage: tests/linear.py PROGRAM BENCH [slow|record]; PROGRAM is tests/c/linear.c and BENCH target/bin/bench. With `slow` PROGRAM goes over what is claimed, so that a
-fault must be found; with `record` the lines for tests/linear_today.txt are printed, and nothing is held to them.
+fault must be found; with `record` the lines of all that is held to a record are printed, and nothing is held to them.
 
 The instructions are those that valgrind's callgrind counts; they are the same in every run. A reading that goes over the elements which an array claims, if it
-ends at all, is over the bound. Besides, tests/linear_today.txt has what the typical frames and the bodies of 16,384 bytes took when it was recorded: none may take a
-tenth more. tests/linear.txt has the same of an older compiler, which made other instructions of the same sources: none may take a half more than that. The last line says what was found, and the exit status is 0 where nothing was over its bound.
+ends at all, is over the bound. Besides, tests/linear.txt has what the typical frames and the bodies of 16,384 bytes took when it was recorded: none may take a
+tenth more. That was with an older compiler. Of the same sources today's makes more than a tenth more instructions for some: tests/linear_today.txt has these as
+they are now, and none may take a tenth more than that. The last line says what was found, and the exit status is 0 where nothing was over its bound.
 """
 import re
 import subprocess
@@ -18,8 +19,8 @@ BOUNDS = {"typical": (1500, 0), "reader": (1500, 52), "engine": (1500, 52), "to-
 
 WAYS = ("reader", "engine", "to-send")
 
-# What was recorded, and how much more none may take: in a hundred, and in words.
-RECORDED = ((Path("tests/linear_today.txt"), 10, "a tenth"), (Path("tests/linear.txt"), 50, "a half"))
+# What was recorded; a line of the second file stands for the first's.
+RECORDED = (Path("tests/linear.txt"), Path("tests/linear_today.txt"))
 
 SECONDS = 120  # a run takes a few
 
@@ -53,14 +54,18 @@ def written(bench):
     return round((totals[1] - totals[0]) / 1000)
 
 
-def recorded(file):
-    """What a file has: the number of each line, by what comes after it."""
-    lines = (line.split(" ", 1) for line in file.read_text(encoding="utf-8").splitlines())
-    return {name: int(number) for number, name in lines}
+def recorded():
+    """What was recorded: the number of each line, by what comes after it, and the file that has it."""
+    found = {}
+    for file in RECORDED:
+        for line in file.read_text(encoding="utf-8").splitlines():
+            number, name = line.split(" ", 1)
+            found[name] = (int(number), file)
+    return found
 
 
 def is_held(reading):
-    """Whether the files have a line for a reading: the typical frames, and the longest that an engine takes."""
+    """Whether one of the files has a line for a reading: the typical frames, and the longest that an engine takes."""
     way, size, _ = reading.split(" ", 2)
     return way in ("typical", "written") or (way != "engine" and 16000 < int(size) <= 16384)
 
@@ -79,17 +84,15 @@ def over_bound(counts):
 
 
 def grown(counts):
-    """What takes more than a file allows over what it has, or is not measured."""
-    faults = []
-    for file, allowed, words in RECORDED:
-        held = recorded(file)
-        for reading, before in held.items():
-            count = counts.get(reading)
-            if count is None:
-                faults.append(f"{reading} is in {file} and was not measured")
-            elif count * 100 > before * (100 + allowed):
-                faults.append(f"{reading}: {count} instructions are over {words} more than the {before} of {file}")
-        faults += [f"{reading} is not in {file}" for reading in counts if is_held(reading) and reading not in held]
+    """What takes a tenth more than was recorded, or is not measured."""
+    faults, held = [], recorded()
+    for reading, (before, file) in held.items():
+        count = counts.get(reading)
+        if count is None:
+            faults.append(f"{reading} is in {file} and was not measured")
+        elif count * 10 > before * 11:
+            faults.append(f"{reading}: {count} instructions are over a tenth more than the {before} of {file}")
+    faults += [f"{reading} is in neither of the files" for reading in counts if is_held(reading) and reading not in held]
     return faults
 
 

@@ -1,4 +1,4 @@
--- A Close that was written is read back with its error, or with none. The result is `close-read-back`.
+-- A Close that was written is read back with its error, or with none. The result is `close_read_back`.
 -- Assumes nothing.
 use mathlib.Core.Path.{◌≡◌, refl, ap, ◌∙◌}
 use mathlib.Core.Bool.{true, false}

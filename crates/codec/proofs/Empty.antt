@@ -1,4 +1,4 @@
--- An empty frame that was written is read back: a frame with no performative. The result is `empty-read-back`.
+-- An empty frame that was written is read back: a frame with no performative. The result is `empty_read_back`.
 -- Assumes nothing.
 use mathlib.Core.Path.{◌≡◌, refl}
 use mathlib.Core.List.{List, [], ◌++◌}

@@ -1,5 +1,5 @@
 -- How long a session's frame is that is written out: at most twice as long as it was lent. No value grows in its shortest form; only defaults are added, and with them
--- the list's header may grow. The result is `session-short`.
+-- the list's header may grow. The result is `session_short`.
 -- Assumes nothing.
 use mathlib.Core.Path.{◌≡◌, refl, sym, ap, ◌∙◌}
 use mathlib.Core.Bool.{Bool, true, false, cond, not, ◌&&◌, ◌||◌, false≢true}

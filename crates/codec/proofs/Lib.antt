@@ -1,8 +1,8 @@
 -- Laws that join reading and writing. These are the results; the other laws serve them.
--- Written, then read: Header.header-read-back and header-written, Open.open-read-back, Close.close-read-back, Empty.empty-read-back.
--- Read, then written: Header.header-bytes. Read, written, then read and written: Session.session-read-back.
--- Within the limit, and accepted by a reader with that limit: Passed.open-passes, close-passes and empty-passes, Session.session-passes.
--- At most twice as long as it was lent: Lengths.session-short.
+-- Written, then read: Header.header_read_back and header_written, Open.open_read_back, Close.close_read_back, Empty.empty_read_back.
+-- Read, then written: Header.header_bytes. Read, written, then read and written: Session.session_read_back.
+-- Within the limit, and accepted by a reader with that limit: Passed.open_passes, close_passes and empty_passes, Session.session_passes.
+-- At most twice as long as it was lent: Lengths.session_short.
 pub mod Header
 pub mod Trimmed
 pub mod Composite

@@ -1,4 +1,4 @@
--- An Open that was written is read back with the settings that it was written from. The result is `open-read-back`.
+-- An Open that was written is read back with the settings that it was written from. The result is `open_read_back`.
 -- Assumes nothing.
 use mathlib.Core.Path.{◌≡◌, refl, ap, ◌∙◌}
 use mathlib.Core.Bool.{true, false}

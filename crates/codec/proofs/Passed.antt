@@ -1,4 +1,4 @@
--- Every frame that is written is within its limit, and passes a reader with that limit. The results are `open-passes`, `close-passes` and `empty-passes`.
+-- Every frame that is written is within its limit, and passes a reader with that limit. The results are `open_passes`, `close_passes` and `empty_passes`.
 -- Assumes nothing.
 use mathlib.Core.Path.{◌≡◌, sym}
 use mathlib.Core.Bool.{Bool, true, ◌&&◌}

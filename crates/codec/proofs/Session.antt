@@ -1,5 +1,5 @@
 -- A session's frame that was written out is read back: same channel, same performative, same meaning of every field, same payload; and writing it again changes nothing.
--- The results are `session-read-back` and `session-passes`.
+-- The results are `session_read_back` and `session_passes`.
 -- Assumes nothing.
 use mathlib.Core.Path.{◌≡◌, refl, sym, ap, ◌∙◌, subst}
 use mathlib.Core.Bool.{Bool, true, false, ◌&&◌, ◌||◌}

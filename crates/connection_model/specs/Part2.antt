@@ -46,19 +46,19 @@ arrows (S EMPTY) = []
 
 -- the entries of the table: HDR, OPEN, any frames, no frames
 pub data Entry : Type 0 where
-  only_hDR only_oPEN any_frame no_frame : Entry
+  only_hdr only_open any_frame no_frame : Entry
 
 -- the table: legal sends, and legal receives. In OPEN_SENT and OPEN_PIPE a frame may be sent that is known to conform to the peer's limits
 abbrev pub legal : State → Entry × Entry
-legal Start = (only_hDR, only_hDR)
-legal HeaderReceived = (only_hDR, only_oPEN)
-legal HeaderSent = (only_oPEN, only_hDR)
-legal HeaderExchange = (only_oPEN, only_oPEN)
-legal OpenReceived = (only_oPEN, any_frame)
-legal OpenSent = (any_frame, only_oPEN)
-legal OpenPipe = (any_frame, only_hDR)
-legal ClosePipe = (no_frame, only_oPEN)
-legal OpenClosePipe = (no_frame, only_hDR)
+legal Start = (only_hdr, only_hdr)
+legal HeaderReceived = (only_hdr, only_open)
+legal HeaderSent = (only_open, only_hdr)
+legal HeaderExchange = (only_open, only_open)
+legal OpenReceived = (only_open, any_frame)
+legal OpenSent = (any_frame, only_open)
+legal OpenPipe = (any_frame, only_hdr)
+legal ClosePipe = (no_frame, only_open)
+legal OpenClosePipe = (no_frame, only_hdr)
 legal Opened = (any_frame, any_frame)
 legal CloseReceived = (any_frame, no_frame)
 legal CloseSent = (no_frame, any_frame)
@@ -80,8 +80,8 @@ is_open SESSION = false
 is_open EMPTY = false
 
 abbrev pub admits : Entry → Control → Bool
-admits only_hDR c = not (is_frame c)
-admits only_oPEN c = is_open c
+admits only_hdr c = not (is_frame c)
+admits only_open c = is_open c
 admits any_frame c = is_frame c
 admits no_frame c = false
 

@@ -24,7 +24,7 @@ use Rattle.performatives.specs.declared.RemoteChannel.{RemoteChannel}
 use Rattle.performatives.specs.declared.RemoteChannel.TheVariants.{Absent, Is}
 use Rattle.performatives.specs.Performative.{Performative, Said, said, values_in, values_of}
 use Rattle.performatives.specs.Answers.{performative_says}
-use Rattle.performatives.specs.contracts.Performative.{the_type as performative-type}
+use Rattle.performatives.specs.contracts.Performative.{the_type as performative_type}
 use Rattle.frame_decoder.specs.declared.Frame as F
 use Rattle.frame_decoder.specs.declared.Frame.TheVariants.{Refused as NotRead, Empty, Body}
 use Rattle.frame_decoder.specs.Frame.{Frame, FrameSaid, within, begins_for, session_frame, session_said}
@@ -49,7 +49,7 @@ use Rattle.endpoint.specs.declared.OutgoingTie.TheVariants.{Stay, To, NotFound}
 use Rattle.endpoint.specs.Answers.{Whole, whole, role_says, role_of, settings_of, places_of, taken_of, view_as, sent_says, tie_says, refusal_of}
 use Rattle.endpoint.specs.Promises.{Sound, Send}
 use Rattle.endpoint.specs.Outgoing.{Low, AsksTie, Ties, ties_and_writes}
-use Rattle.endpoint.specs.contracts.OutgoingTie.{the_type as tie-type}
+use Rattle.endpoint.specs.contracts.OutgoingTie.{the_type as tie_type}
 use Rattle.endpoint.proofs.Basics.{same_all, stays, taken_within, retied, retied_sound, retied_same}
 
 -- ---- outgoing_tie
@@ -62,7 +62,7 @@ unnamed : (role : M.Role) (ch : ℕ) (h : Option ℕ) → accept stay ≡ tied_b
 unnamed M.dialler ch h = refl
 unnamed M.listener ch h = refl
 
-other_names : (p : P.Performative) → OneOf (0 ∷ 2 ∷ 3 ∷ 4 ∷ 5 ∷ 6 ∷ 7 ∷ 8 ∷ []) (tag_of performative-type p) → named p ≡ []
+other_names : (p : P.Performative) → OneOf (0 ∷ 2 ∷ 3 ∷ 4 ∷ 5 ∷ 6 ∷ 7 ∷ 8 ∷ []) (tag_of performative_type p) → named p ≡ []
 other_names (Open a b c) h = refl
 other_names (Begin r) h = absurd (miss (0 ∷ 2 ∷ 3 ∷ 4 ∷ 5 ∷ 6 ∷ 7 ∷ 8 ∷ []) 1 tt h)
 other_names Attach h = refl
@@ -85,7 +85,7 @@ module _ (self : Endpoint) (t : List ℕ) (channel : ℕ) (p : P.Performative) w
       asks_none id
       (unnamed (role_of (whole self t id)) channel (taken_of (whole self t id) channel) ∙ sym (ap (λ l. tied_by (role_of (whole self t id)) l channel (taken_of (whole self t id) channel)) e))
 
-  pub tie_other : OneOf (0 ∷ 2 ∷ 3 ∷ 4 ∷ 5 ∷ 6 ∷ 7 ∷ 8 ∷ []) (tag_of performative-type p) → (id : List ℕ) → AsksTie (whole self t id) channel (named p) Stay
+  pub tie_other : OneOf (0 ∷ 2 ∷ 3 ∷ 4 ∷ 5 ∷ 6 ∷ 7 ∷ 8 ∷ []) (tag_of performative_type p) → (id : List ℕ) → AsksTie (whole self t id) channel (named p) Stay
   tie_other h = none_named (other_names p h)
 
   module _ (remote : RemoteChannel) (b : p ≡ Begin remote) where
@@ -111,7 +111,7 @@ module _ (self : Endpoint) (t : List ℕ) (channel : ℕ) (p : P.Performative) w
 
 -- ---- make_tie
 
-pub tied_not : (self : Endpoint) (t : List ℕ) (tie : OutgoingTie) → OneOf (0 ∷ 2 ∷ []) (tag_of tie-type tie) → (id : List ℕ) → Ties (whole self t id) tie (whole self t id)
+pub tied_not : (self : Endpoint) (t : List ℕ) (tie : OutgoingTie) → OneOf (0 ∷ 2 ∷ []) (tag_of tie_type tie) → (id : List ℕ) → Ties (whole self t id) tie (whole self t id)
 tied_not self t Stay o id = record { ties = λ i e q x. let z : e ≡ stay = cc in rw z; ties_sound = λ i. i; ties_same = same_all (whole self t id) }
 tied_not self t (To n ch h) o id = absurd (miss (0 ∷ 2 ∷ []) 1 tt o)
 tied_not self t NotFound o id = record { ties = λ i e q x. apart (cc); ties_sound = λ i. i; ties_same = same_all (whole self t id) }

@@ -18,7 +18,7 @@ use Rattle.connection_state.specs.declared.ConnectionState.{ConnectionState}
 use Rattle.connection_model.specs.Connection.{Answer}
 use Rattle.endpoint.specs.declared.Role as E
 use Rattle.endpoint.specs.declared.Role.TheVariants.{Dialler, Listener}
-use Rattle.endpoint.specs.contracts.Role.{the_type as role-type}
+use Rattle.endpoint.specs.contracts.Role.{the_type as role_type}
 use Rattle.endpoint.specs.Answers.{role_says}
 use Rattle.connection.specs.View as View
 use Rattle.connection.specs.declared.Connection.{Connection}
@@ -133,11 +133,11 @@ undelivered_frame Dialler new b e = refl
 undelivered_frame Listener true b e = let z : ◌≡◌ {A = ℕ} 0 1 = cc in absurd (omega arith)
 undelivered_frame Listener false b e = refl
 
-pub undelivered_dialler : (role : E.Role) (new : Bool) → OneOf (0 ∷ []) (tag_of role-type role) → error_says SessionNotFound ≡ some (M.undelivered (role_says role) new)
+pub undelivered_dialler : (role : E.Role) (new : Bool) → OneOf (0 ∷ []) (tag_of role_type role) → error_says SessionNotFound ≡ some (M.undelivered (role_says role) new)
 undelivered_dialler Dialler new o = refl
 undelivered_dialler Listener new o = absurd (miss (0 ∷ []) 1 tt o)
 
-pub undelivered_session : (role : E.Role) (new : Bool) → not new ≡ false → OneOf (1 ∷ []) (tag_of role-type role) → error_says NotImplemented ≡ some (M.undelivered (role_says role) new)
+pub undelivered_session : (role : E.Role) (new : Bool) → not new ≡ false → OneOf (1 ∷ []) (tag_of role_type role) → error_says NotImplemented ≡ some (M.undelivered (role_says role) new)
 undelivered_session Dialler new e o = absurd (miss (1 ∷ []) 0 tt o)
 undelivered_session Listener true e o = refl
 undelivered_session Listener false e o = let z : ◌≡◌ {A = ℕ} 0 1 = cc in absurd (omega arith)

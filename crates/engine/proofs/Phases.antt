@@ -11,7 +11,7 @@ use borrow.Author.Tests.{eq-eqb, ne_eqb}
 use Rattle.connection_state.specs.States.{State, Start, HeaderReceived, HeaderSent, HeaderExchange, OpenPipe, OpenClosePipe, OpenReceived, OpenSent, ClosePipe, Opened, CloseReceived, CloseSent, Discarding, End, is, is_one_of}
 use Rattle.connection_state.proofs.States.{states, everywhere}
 use Rattle.connection_state.proofs.Laws.{failing, fails}
-use Rattle.connection_state.specs.contracts.ConnectionState.{the_type as state-type}
+use Rattle.connection_state.specs.contracts.ConnectionState.{the_type as state_type}
 use Rattle.connection_state.specs.Answers.{state_says}
 use Rattle.connection_state.specs.declared.ConnectionState.{ConnectionState}
 use Rattle.connection.specs.declared.Connection.{Connection}
@@ -90,7 +90,7 @@ elsewhere o CloseSent e = absurd (subst T e tt)
 elsewhere o Discarding e = absurd (subst T e tt)
 elsewhere o End e = absurd (subst T e tt)
 
-pub unclosed_elsewhere : (k : ℕ) (o : Outcome) (x : ConnectionState) → k ≡ 20 → OneOf (failing (is_one_of (ClosePipe ∷ CloseSent ∷ Discarding ∷ End ∷ [])) states) (tag_of state-type x) → phase_says (Stopped IllegalState) ≡ not_closed k (outcome_says o) (state_says x)
+pub unclosed_elsewhere : (k : ℕ) (o : Outcome) (x : ConnectionState) → k ≡ 20 → OneOf (failing (is_one_of (ClosePipe ∷ CloseSent ∷ Discarding ∷ End ∷ [])) states) (tag_of state_type x) → phase_says (Stopped IllegalState) ≡ not_closed k (outcome_says o) (state_says x)
 unclosed_elsewhere k o x e h =
     elsewhere (outcome_says o) (state_says x) (sym (fails (is_one_of (ClosePipe ∷ CloseSent ∷ Discarding ∷ End ∷ [])) x h))
     ∙ ap (λ u. cond u (M.unclosed (outcome_says o) (state_says x)) (M.stopped M.transport_error)) (sym (eq-eqb k 20 e))

@@ -14,7 +14,7 @@ use Rattle.performatives.specs.Performative as P
 use Rattle.performatives.specs.declared.Performative.{Performative}
 use Rattle.performatives.specs.declared.Condition.{Condition}
 use Rattle.performatives.specs.declared.Performative.TheVariants.{Open, Begin, Attach, Flow, Transfer, Disposition, Detach, End, Close}
-use Rattle.performatives.specs.contracts.Performative.{the_type as performative-type}
+use Rattle.performatives.specs.contracts.Performative.{the_type as performative_type}
 use Rattle.performatives.specs.Answers.{performative_says}
 use Rattle.frame_decoder.specs.Frame.{FrameSaid, read_frame, frame_said}
 use Rattle.frame_decoder.specs.Frame as F
@@ -28,13 +28,13 @@ use Rattle.connection_state.specs.declared.ConnectionState.{ConnectionState}
 use Rattle.connection_state.specs.declared.ConnectionState.TheVariants.{CloseReceived}
 use Rattle.connection_state.proofs.States.{states}
 use Rattle.connection_state.proofs.Laws.{failing, fails}
-use Rattle.connection_state.specs.contracts.ConnectionState.{the_type as state-type}
+use Rattle.connection_state.specs.contracts.ConnectionState.{the_type as state_type}
 use Rattle.endpoint.specs.declared.Role as E
 use Rattle.endpoint.specs.declared.Role.TheVariants.{Dialler, Listener}
-use Rattle.endpoint.specs.contracts.Role.{the_type as role-type}
+use Rattle.endpoint.specs.contracts.Role.{the_type as role_type}
 use Rattle.endpoint.specs.declared.FrameAnswer.{FrameAnswer}
 use Rattle.endpoint.specs.declared.FrameAnswer.TheVariants.{NothingToDo, Opened, Closed, Forward, Began, Refused}
-use Rattle.endpoint.specs.contracts.FrameAnswer.{the_type as answer-type}
+use Rattle.endpoint.specs.contracts.FrameAnswer.{the_type as answer_type}
 use Rattle.endpoint.specs.Answers.{role_says, answer_says}
 use Rattle.engine_model.specs.Engine as M
 use Rattle.connection_model.specs.Connection as K
@@ -48,7 +48,7 @@ use Rattle.engine.specs.declared.Outcome.TheVariants.{Fine, RemoteClosed, Remote
 use Rattle.engine.specs.declared.Phase.{Phase}
 use Rattle.engine.specs.declared.Phase.TheVariants.{Running, Awaiting, Stopped}
 use Rattle.engine.specs.declared.Landed.{Landed}
-use Rattle.engine.specs.contracts.Phase.{the_type as phase-type}
+use Rattle.engine.specs.contracts.Phase.{the_type as phase_type}
 use Rattle.engine.specs.Reading.{answers_close}
 use Rattle.engine.specs.Answers.{phase_says, outcome_says, error_says}
 use Rattle.engine.specs.Promises.{consumed_for, close_of, awaited_by, LandedIn, landed_in, LeadsTo, Fails, Lands}
@@ -62,11 +62,11 @@ read_illegal role k e = rw (eq-eqb k 20 e)
 pub read_unknown : (role : E.Role) (k : ℕ) → (k ≡ 20 → ⊥) → k ≡ 24 → error_says NotFound ≡ read_fault (role_says role) k
 read_unknown role k n e = rw (ne_eqb k 20 n, eq-eqb k 24 e)
 
-pub read_dialler : (role : E.Role) (k : ℕ) → (k ≡ 20 → ⊥) → (k ≡ 24 → ⊥) → k ≡ 25 → OneOf (0 ∷ []) (tag_of role-type role) → error_says RemoteSession ≡ read_fault (role_says role) k
+pub read_dialler : (role : E.Role) (k : ℕ) → (k ≡ 20 → ⊥) → (k ≡ 24 → ⊥) → k ≡ 25 → OneOf (0 ∷ []) (tag_of role_type role) → error_says RemoteSession ≡ read_fault (role_says role) k
 read_dialler Dialler k n m e o = rw (ne_eqb k 20 n, ne_eqb k 24 m, eq-eqb k 25 e)
 read_dialler Listener k n m e o = absurd (miss (0 ∷ []) 1 tt o)
 
-pub read_listener : (role : E.Role) (k : ℕ) → (k ≡ 20 → ⊥) → (k ≡ 24 → ⊥) → k ≡ 25 → OneOf (1 ∷ []) (tag_of role-type role) → error_says NotImplemented ≡ read_fault (role_says role) k
+pub read_listener : (role : E.Role) (k : ℕ) → (k ≡ 20 → ⊥) → (k ≡ 24 → ⊥) → k ≡ 25 → OneOf (1 ∷ []) (tag_of role_type role) → error_says NotImplemented ≡ read_fault (role_says role) k
 read_listener Dialler k n m e o = absurd (miss (1 ∷ []) 0 tt o)
 read_listener Listener k n m e o = rw (ne_eqb k 20 n, ne_eqb k 24 m, eq-eqb k 25 e)
 
@@ -81,7 +81,7 @@ closed_error o x b t = ap (closed_by (outcome_says o) (state_says x)) (sym t)
 pub closed_received : (o : O.Outcome) (x : ConnectionState) (b : Bool) → b ≡ false → x ≡ CloseReceived → outcome_says RemoteClosed ≡ closed_by (outcome_says o) (state_says x) b
 closed_received o x b f e = ap (λ y. closed_by (outcome_says o) (state_says y) false) (sym e) ∙ ap (closed_by (outcome_says o) (state_says x)) (sym f)
 
-pub closed_else : (o : O.Outcome) (x : ConnectionState) (b : Bool) → b ≡ false → OneOf (failing (is S.CloseReceived) states) (tag_of state-type x) → outcome_says o ≡ closed_by (outcome_says o) (state_says x) b
+pub closed_else : (o : O.Outcome) (x : ConnectionState) (b : Bool) → b ≡ false → OneOf (failing (is S.CloseReceived) states) (tag_of state_type x) → outcome_says o ≡ closed_by (outcome_says o) (state_says x) b
 closed_else o x b f h = ap (λ y. cond y M.remote_closed (outcome_says o)) (fails (is S.CloseReceived) x h) ∙ ap (closed_by (outcome_says o) (state_says x)) (sym f)
 
 -- ---- whether it is a Close
@@ -113,7 +113,7 @@ module _ (limit highest : ℕ) (s : List ℕ) (f : D.Frame) (e : frame_says f �
   pub close_none : ((channel size from : ℕ) (p : Performative) (end : ℕ) → f ≡ Body channel size from p end → ⊥) → false ≡ is_close (read_frame limit highest s)
   close_none o = none_said f o ∙ close_is
 
-  close_code : (p : Performative) → OneOf (8 ∷ []) (tag_of performative-type p) → true ≡ eqb (performative_says p).0 24
+  close_code : (p : Performative) → OneOf (8 ∷ []) (tag_of performative_type p) → true ≡ eqb (performative_says p).0 24
   close_code (Open a b c) o = absurd (miss (8 ∷ []) 0 tt o)
   close_code (Begin a) o = absurd (miss (8 ∷ []) 1 tt o)
   close_code Attach o = absurd (miss (8 ∷ []) 2 tt o)
@@ -135,7 +135,7 @@ module _ (limit highest : ℕ) (s : List ℕ) (f : D.Frame) (e : frame_says f �
   other_code (End a) o = refl
   other_code (Close a) o = absurd (o a refl)
 
-  pub close_body_is : (channel size from end : ℕ) (p : Performative) → f ≡ Body channel size from p end → OneOf (8 ∷ []) (tag_of performative-type p) → true ≡ is_close (read_frame limit highest s)
+  pub close_body_is : (channel size from end : ℕ) (p : Performative) → f ≡ Body channel size from p end → OneOf (8 ∷ []) (tag_of performative_type p) → true ≡ is_close (read_frame limit highest s)
   close_body_is channel size from end p q o = close_code p o ∙ ap (λ g. said_close (frame_says g)) (sym q) ∙ close_is
 
   pub other_body : (channel size from end : ℕ) (p : Performative) → f ≡ Body channel size from p end → ((x : Condition) → p ≡ Close x → ⊥) → false ≡ is_close (read_frame limit highest s)
@@ -143,7 +143,7 @@ module _ (limit highest : ℕ) (s : List ℕ) (f : D.Frame) (e : frame_says f �
 
 -- ---- what it consumes
 
-pub consumes_all : (a : FrameAnswer) (size : ℕ) → OneOf (0 ∷ 1 ∷ 2 ∷ 3 ∷ 4 ∷ []) (tag_of answer-type a) → size ≡ consumed_for (answer_says a) size
+pub consumes_all : (a : FrameAnswer) (size : ℕ) → OneOf (0 ∷ 1 ∷ 2 ∷ 3 ∷ 4 ∷ []) (tag_of answer_type a) → size ≡ consumed_for (answer_says a) size
 consumes_all (NothingToDo n) size o = refl
 consumes_all (Opened n idle) size o = refl
 consumes_all (Closed n error) size o = refl
@@ -166,7 +166,7 @@ module _ (a : FrameAnswer) (size k : ℕ) (q : a ≡ Refused k) where
 pub phase_closed : (a : FrameAnswer) (n : ℕ) (error : Bool) (x y : ConnectionState) (o : O.Outcome) → a ≡ Closed n error → outcome_says o ≡ closed_by M.fine (state_says x) error → phase_says (Stopped o) ≡ phase_read (close_of (answer_says a)) (state_says x) (state_says y)
 phase_closed a n error x y o q e = ap M.stopped e ∙ ap (λ u. phase_read (close_of (answer_says u)) (state_says x) (state_says y)) (sym q)
 
-settles_by : (a : FrameAnswer) (x y : S.State) → OneOf (0 ∷ 1 ∷ 3 ∷ 4 ∷ 5 ∷ []) (tag_of answer-type a) → M.settled y ≡ phase_read (close_of (answer_says a)) x y
+settles_by : (a : FrameAnswer) (x y : S.State) → OneOf (0 ∷ 1 ∷ 3 ∷ 4 ∷ 5 ∷ []) (tag_of answer_type a) → M.settled y ≡ phase_read (close_of (answer_says a)) x y
 settles_by (NothingToDo n) x y o = refl
 settles_by (Opened n idle) x y o = refl
 settles_by (Closed n error) x y o = absurd (miss (0 ∷ 1 ∷ 3 ∷ 4 ∷ 5 ∷ []) 2 tt o)
@@ -174,10 +174,10 @@ settles_by (Forward n code h from len) x y o = refl
 settles_by (Began n ch h from len) x y o = refl
 settles_by (Refused k) x y o = refl
 
-pub phase_over : (a : FrameAnswer) (x y : ConnectionState) (b : Bool) → OneOf (0 ∷ 1 ∷ 3 ∷ 4 ∷ 5 ∷ []) (tag_of answer-type a) → b ≡ is S.End (state_says y) → b ≡ true → phase_says (Stopped Fine) ≡ phase_read (close_of (answer_says a)) (state_says x) (state_says y)
+pub phase_over : (a : FrameAnswer) (x y : ConnectionState) (b : Bool) → OneOf (0 ∷ 1 ∷ 3 ∷ 4 ∷ 5 ∷ []) (tag_of answer_type a) → b ≡ is S.End (state_says y) → b ≡ true → phase_says (Stopped Fine) ≡ phase_read (close_of (answer_says a)) (state_says x) (state_says y)
 phase_over a x y b o e t = ap (λ u. cond u (M.stopped M.fine) M.running) (sym t ∙ e) ∙ settles_by a (state_says x) (state_says y) o
 
-pub phase_on : (a : FrameAnswer) (x y : ConnectionState) (b : Bool) → OneOf (0 ∷ 1 ∷ 3 ∷ 4 ∷ 5 ∷ []) (tag_of answer-type a) → b ≡ is S.End (state_says y) → b ≡ false → phase_says Running ≡ phase_read (close_of (answer_says a)) (state_says x) (state_says y)
+pub phase_on : (a : FrameAnswer) (x y : ConnectionState) (b : Bool) → OneOf (0 ∷ 1 ∷ 3 ∷ 4 ∷ 5 ∷ []) (tag_of answer_type a) → b ≡ is S.End (state_says y) → b ≡ false → phase_says Running ≡ phase_read (close_of (answer_says a)) (state_says x) (state_says y)
 phase_on a x y b o e f = ap (λ u. cond u (M.stopped M.fine) M.running) (sym f ∙ e) ∙ settles_by a (state_says x) (state_says y) o
 
 module _ (kept : O.Outcome) (c : Connection) (a : FrameAnswer) where
@@ -193,7 +193,7 @@ module _ (kept : O.Outcome) (c : Connection) (a : FrameAnswer) where
       (n : ℕ) (error : Bool) (x : ConnectionState) (o : O.Outcome) → a ≡ Closed n error → x ≡ c.local_state → outcome_says o ≡ closed_by (outcome_says kept) (state_says x) error → phase_says (Stopped o) ≡ awaits_by a
   awaited_closed n error x o q s w = ap M.stopped (w ∙ ap (λ u. closed_by (outcome_says kept) (state_says u) error) s) ∙ ap awaits_by (sym q)
 
-awaits_by_lem : (o : M.Outcome) (role : K.Role) (x : S.State) (a : FrameAnswer) → OneOf (0 ∷ 1 ∷ 3 ∷ 4 ∷ []) (tag_of answer-type a) → M.awaiting o ≡ awaited_by role o x (answer_says a)
+awaits_by_lem : (o : M.Outcome) (role : K.Role) (x : S.State) (a : FrameAnswer) → OneOf (0 ∷ 1 ∷ 3 ∷ 4 ∷ []) (tag_of answer_type a) → M.awaiting o ≡ awaited_by role o x (answer_says a)
 awaits_by_lem o role x (NothingToDo n) h = refl
 awaits_by_lem o role x (Opened n idle) h = refl
 awaits_by_lem o role x (Closed n error) h = absurd (miss (0 ∷ 1 ∷ 3 ∷ 4 ∷ []) 2 tt h)
@@ -201,7 +201,7 @@ awaits_by_lem o role x (Forward n code handle from len) h = refl
 awaits_by_lem o role x (Began n ch handle from len) h = refl
 awaits_by_lem o role x (Refused k) h = absurd (miss (0 ∷ 1 ∷ 3 ∷ 4 ∷ []) 5 tt h)
 
-not_both : (a : FrameAnswer) → OneOf (0 ∷ 1 ∷ 2 ∷ 3 ∷ 4 ∷ []) (tag_of answer-type a) → OneOf (0 ∷ 1 ∷ 3 ∷ 4 ∷ 5 ∷ []) (tag_of answer-type a) → OneOf (0 ∷ 1 ∷ 3 ∷ 4 ∷ []) (tag_of answer-type a)
+not_both : (a : FrameAnswer) → OneOf (0 ∷ 1 ∷ 2 ∷ 3 ∷ 4 ∷ []) (tag_of answer_type a) → OneOf (0 ∷ 1 ∷ 3 ∷ 4 ∷ 5 ∷ []) (tag_of answer_type a) → OneOf (0 ∷ 1 ∷ 3 ∷ 4 ∷ []) (tag_of answer_type a)
 not_both (NothingToDo n) o h = hit (0 ∷ 1 ∷ 3 ∷ 4 ∷ []) 0 tt
 not_both (Opened n idle) o h = hit (0 ∷ 1 ∷ 3 ∷ 4 ∷ []) 1 tt
 not_both (Closed n error) o h = absurd (miss (0 ∷ 1 ∷ 3 ∷ 4 ∷ 5 ∷ []) 2 tt h)
@@ -210,7 +210,7 @@ not_both (Began n ch handle from len) o h = hit (0 ∷ 1 ∷ 3 ∷ 4 ∷ []) 4 t
 not_both (Refused k) o h = absurd (miss (0 ∷ 1 ∷ 2 ∷ 3 ∷ 4 ∷ []) 5 tt o)
 
 pub awaited_on :
-    (kept : O.Outcome) (c : Connection) (a : FrameAnswer) → OneOf (0 ∷ 1 ∷ 2 ∷ 3 ∷ 4 ∷ []) (tag_of answer-type a) → OneOf (0 ∷ 1 ∷ 3 ∷ 4 ∷ 5 ∷ []) (tag_of answer-type a)
+    (kept : O.Outcome) (c : Connection) (a : FrameAnswer) → OneOf (0 ∷ 1 ∷ 2 ∷ 3 ∷ 4 ∷ []) (tag_of answer_type a) → OneOf (0 ∷ 1 ∷ 3 ∷ 4 ∷ 5 ∷ []) (tag_of answer_type a)
     → phase_says (Awaiting kept) ≡ awaited_by (role_says c.endpoint.role) (outcome_says kept) (state_says c.local_state) (answer_says a)
 awaited_on kept c a o h = awaits_by_lem (outcome_says kept) (role_says c.endpoint.role) (state_says c.local_state) a (not_both a o h)
 
@@ -264,7 +264,7 @@ module _ (x : S.State) (c : Connection) (n : ℕ) (out : List ℕ) where
 pub answered_refused : (role : E.Role) (a : FrameAnswer) (x y : S.State) (k : ℕ) (error : InnerError) (o : O.Outcome) → a ≡ Refused k → error_says error ≡ read_fault (role_says role) k → outcome_says o ≡ M.outcome_of (error_says error) → phase_says (Stopped o) ≡ M.phase_answered (role_says role) x (answer_says a) y
 answered_refused role a x y k error o q e w = ap M.stopped (w ∙ ap M.outcome_of e) ∙ ap (λ u. M.phase_answered (role_says role) x (answer_says u) y) (sym q)
 
-read_answered : (role : K.Role) (x y : S.State) (a : FrameAnswer) → OneOf (0 ∷ 1 ∷ 2 ∷ 3 ∷ 4 ∷ []) (tag_of answer-type a) → phase_read (close_of (answer_says a)) x y ≡ M.phase_answered role x (answer_says a) y
+read_answered : (role : K.Role) (x y : S.State) (a : FrameAnswer) → OneOf (0 ∷ 1 ∷ 2 ∷ 3 ∷ 4 ∷ []) (tag_of answer_type a) → phase_read (close_of (answer_says a)) x y ≡ M.phase_answered role x (answer_says a) y
 read_answered role x y (NothingToDo n) o = refl
 read_answered role x y (Opened n idle) o = refl
 read_answered role x y (Closed n error) o = refl
@@ -272,7 +272,7 @@ read_answered role x y (Forward n code h from len) o = refl
 read_answered role x y (Began n ch h from len) o = refl
 read_answered role x y (Refused k) o = absurd (miss (0 ∷ 1 ∷ 2 ∷ 3 ∷ 4 ∷ []) 5 tt o)
 
-pub answered_taken : (role : E.Role) (a : FrameAnswer) (x y : S.State) (p : Phase) → OneOf (0 ∷ 1 ∷ 2 ∷ 3 ∷ 4 ∷ []) (tag_of answer-type a) → phase_says p ≡ phase_read (close_of (answer_says a)) x y → phase_says p ≡ M.phase_answered (role_says role) x (answer_says a) y
+pub answered_taken : (role : E.Role) (a : FrameAnswer) (x y : S.State) (p : Phase) → OneOf (0 ∷ 1 ∷ 2 ∷ 3 ∷ 4 ∷ []) (tag_of answer_type a) → phase_says p ≡ phase_read (close_of (answer_says a)) x y → phase_says p ≡ M.phase_answered (role_says role) x (answer_says a) y
 answered_taken role a x y p o e = e ∙ read_answered (role_says role) x y a o
 
 -- ---- whether it is to be answered
@@ -291,7 +291,7 @@ answers_received c limit highest s x b q l h e t id =
     both false = refl
 
 pub answers_not :
-    (c : Connection) (s : List ℕ) (x : ConnectionState) → OneOf (failing (is S.CloseReceived) states) (tag_of state-type x)
+    (c : Connection) (s : List ℕ) (x : ConnectionState) → OneOf (failing (is S.CloseReceived) states) (tag_of state_type x)
     → (t id : List ℕ) → false ≡ answers_close (View.view_of (View.whole c t id)).reading_limit (View.settings_of (View.whole c t id)).channel_max s (state_says x)
 answers_not c s x h t id =
     neither close ∙ ap (λ u. close && u) (fails (is S.CloseReceived) x h)
@@ -305,12 +305,12 @@ answers_not c s x h t id =
 
 -- ---- stopped
 
-pub stops : (p : Phase) → OneOf (2 ∷ []) (tag_of phase-type p) → true ≡ M.is_stopped (phase_says p)
+pub stops : (p : Phase) → OneOf (2 ∷ []) (tag_of phase_type p) → true ≡ M.is_stopped (phase_says p)
 stops Running o = absurd (miss (2 ∷ []) 0 tt o)
 stops (Awaiting x) o = absurd (miss (2 ∷ []) 1 tt o)
 stops (Stopped x) o = refl
 
-pub stops_not : (p : Phase) → OneOf (0 ∷ 1 ∷ []) (tag_of phase-type p) → false ≡ M.is_stopped (phase_says p)
+pub stops_not : (p : Phase) → OneOf (0 ∷ 1 ∷ []) (tag_of phase_type p) → false ≡ M.is_stopped (phase_says p)
 stops_not Running o = refl
 stops_not (Awaiting x) o = refl
 stops_not (Stopped x) o = absurd (miss (0 ∷ 1 ∷ []) 2 tt o)

@@ -16,7 +16,7 @@ use Rattle.octets.proofs.Laws.{require_on, require_off, then_accept, then_refuse
 use Rattle.frame_decoder.specs.Frame.{size_of, read_frame, session_frames}
 use Rattle.frame_decoder.specs.declared.Frames.{Frames}
 use Rattle.frame_decoder.specs.declared.Frames.TheVariants.{Are, Refused as NotAll}
-use Rattle.frame_decoder.specs.contracts.Frames.{the_type as frames-type}
+use Rattle.frame_decoder.specs.contracts.Frames.{the_type as frames_type}
 use Rattle.frame_decoder.specs.Answers.{frames_say, refusal_in}
 use Rattle.frame_encoder.specs.Frames.{Settings}
 use Rattle.connection_state.specs.States.{State, CloseReceived, is}
@@ -182,11 +182,11 @@ module _ (e : ConnectionEngine) (t s : List ℕ) (h : ℕ) (w out : List ℕ) wh
               comes : comes_to W event ≡ and_then (frames_say f) tail
               comes = require_on 9 _ _ has ∙ require_on 20 _ _ (ap not (sym st ∙ goes)) ∙ require_on 1 _ _ (ap not (sym (misses id) ∙ there)) ∙ ap (λ x. and_then x tail) frames_are
 
-            refused_by_lem : (g : Frames) (k : ℕ) → OneOf (1 ∷ []) (tag_of frames-type g) → k ≡ refusal_in (frames_say g) → frames_say g ≡ refuse k
+            refused_by_lem : (g : Frames) (k : ℕ) → OneOf (1 ∷ []) (tag_of frames_type g) → k ≡ refusal_in (frames_say g) → frames_say g ≡ refuse k
             refused_by_lem (Are n) k o q = absurd (miss (1 ∷ []) 0 tt o)
             refused_by_lem (NotAll j) k o q = ap refuse (sym q)
 
-            pub incoming_waiting : (r : OnIncoming) (k : ℕ) → OneOf (1 ∷ []) (tag_of frames-type f) → k ≡ refusal_in (frames_say f) → NotTaken k r → Comes r out t
+            pub incoming_waiting : (r : OnIncoming) (k : ℕ) → OneOf (1 ∷ []) (tag_of frames_type f) → k ≡ refusal_in (frames_say f) → NotTaken k r → Comes r out t
             incoming_waiting r k o q g id = in_them out id _ _ (refuses_so r k id (λ z. comes id ∙ then_refuse _ (tail id) k (refused_by_lem f k o q)) g)
 
             pub incoming_done :

@@ -21,10 +21,10 @@ use denote.Enum.Declared.{tag_of}
 use Rattle.connection.specs.View.{allocate_says, freed_says, tick_says}
 use Rattle.connection.specs.declared.AllocateAnswer.{AllocateAnswer}
 use Rattle.connection.specs.declared.AllocateAnswer.TheVariants.{Channel, Refused as NoChannel}
-use Rattle.connection.specs.contracts.AllocateAnswer.{the_type as allocate-type}
+use Rattle.connection.specs.contracts.AllocateAnswer.{the_type as allocate_type}
 use Rattle.connection.specs.declared.DeallocateAnswer.{DeallocateAnswer}
 use Rattle.connection.specs.declared.DeallocateAnswer.TheVariants.{Freed, Refused as NotFreed}
-use Rattle.connection.specs.contracts.DeallocateAnswer.{the_type as deallocate-type}
+use Rattle.connection.specs.contracts.DeallocateAnswer.{the_type as deallocate_type}
 use Rattle.connection.specs.declared.TickAnswer.{TickAnswer}
 use Rattle.connection.specs.declared.TickAnswer.TheVariants.{Wrote, Stop as Idle, Refused as NotTicked}
 use Rattle.engine_model.specs.Engine as M
@@ -198,14 +198,14 @@ module _ (e : ConnectionEngine) (t : List ℕ) (v : Bool) (cover : (id : List �
 
     pub allocate_done :
         (h : ℕ) (a : AllocateAnswer) (x : Connection) (t' : List ℕ) (d : ConnectionEngine) (r : R.Running) → not v ≡ false → b ≡ false
-        → ((id : List ℕ) → C.DoesIn (K.allocate h) (View.whole e.connection t id) (allocate_says a) [] (View.whole x t' id)) → OneOf (0 ∷ []) (tag_of allocate-type a) → Settles x d → r ≡ goes_on d.phase
+        → ((id : List ℕ) → C.DoesIn (K.allocate h) (View.whole e.connection t id) (allocate_says a) [] (View.whole x t' id)) → OneOf (0 ∷ []) (tag_of allocate_type a) → Settles x d → r ≡ goes_on d.phase
         → (id : List ℕ) → DoesIn (M.allocate h) (whole e t id) (reply_says r 0 0 (some (allocate_says a))) [] (whole d t' id)
     allocate_done h (Channel ch) x t' d r n f p o s q = order_done e t v cover n b ends (M.allocate h) (K.allocate h) (K.channel ch) x t' d r (allocates h) f p refl s q
     allocate_done h (NoChannel k) x t' d r n f p o s q = absurd (miss (0 ∷ []) 1 tt o)
 
     pub deallocate_done :
         (ch : ℕ) (a : DeallocateAnswer) (x : Connection) (t' : List ℕ) (d : ConnectionEngine) (r : R.Running) → not v ≡ false → b ≡ false
-        → ((id : List ℕ) → C.DoesIn (K.deallocate ch) (View.whole e.connection t id) (freed_says a) [] (View.whole x t' id)) → OneOf (0 ∷ []) (tag_of deallocate-type a) → Settles x d → r ≡ goes_on d.phase
+        → ((id : List ℕ) → C.DoesIn (K.deallocate ch) (View.whole e.connection t id) (freed_says a) [] (View.whole x t' id)) → OneOf (0 ∷ []) (tag_of deallocate_type a) → Settles x d → r ≡ goes_on d.phase
         → (id : List ℕ) → DoesIn (M.deallocate ch) (whole e t id) (reply_says r 0 0 (some (freed_says a))) [] (whole d t' id)
     deallocate_done ch (Freed h) x t' d r n f p o s q = order_done e t v cover n b ends (M.deallocate ch) (K.deallocate ch) (K.freed h) x t' d r (deallocates ch) f p refl s q
     deallocate_done ch (NotFreed k) x t' d r n f p o s q = absurd (miss (0 ∷ []) 1 tt o)

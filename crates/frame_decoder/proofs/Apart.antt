@@ -1,4 +1,4 @@
--- What the answers say tells every two answers apart: from what is said the answer is found again. Results: `same-frame`, `same-frames`.
+-- What the answers say tells every two answers apart: from what is said the answer is found again. Results: `same_frame`, `same_frames`.
 -- Assumes nothing.
 use mathlib.Core.Path.{◌≡◌, refl, sym, ap, ◌∙◌}
 use mathlib.Core.Bool.{cond}

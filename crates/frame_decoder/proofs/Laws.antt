@@ -1,5 +1,5 @@
 -- Laws of frames: what an accepted frame went through, and that only its own bytes decide. Results: `read_more` (an answer other than 1 stays as more bytes come),
--- `read_only` and `session-only` (what stands after a frame is not looked at).
+-- `read_only` and `session_only` (what stands after a frame is not looked at).
 -- Assumes nothing.
 use mathlib.Core.Path.{◌≡◌, refl, sym, ap, ◌∙◌}
 use mathlib.Core.Bool.{Bool, true, false, ◌||◌, and-eq-true_iff}

@@ -18,7 +18,7 @@ use Rattle.engine.specs.declared.Outcome.{Outcome}
 use Rattle.engine.specs.declared.Outcome.TheVariants.{Fine, TransportError, IllegalState, NotFound, NotImplemented, RemoteClosed, RemoteClosedWithError}
 use Rattle.engine.specs.declared.Running.{Running}
 use Rattle.engine.specs.declared.Running.TheVariants.{Continue, Stop, Refused}
-use Rattle.engine.specs.contracts.Running.{the_type as running-type}
+use Rattle.engine.specs.contracts.Running.{the_type as running_type}
 use Rattle.engine.specs.Answers.{outcome_says, reply_says}
 use Rattle.engine_bytes.specs.Bytes.{outcome_number}
 use Rattle.hisproat.specs.declared.answers.Done.{Done}
@@ -83,7 +83,7 @@ module _ (d : Done) (x : ConnectionEngine) (s a s' a' : List ℕ) where
     finishes_not = λ n. (refl, refl);
   }
 
-  runs : (r : Running) → OneOf (0 ∷ []) (tag_of running-type r) → r ≡ Continue
+  runs : (r : Running) → OneOf (0 ∷ []) (tag_of running_type r) → r ≡ Continue
   runs Continue o = refl
   runs (Stop x) o = absurd (miss (0 ∷ []) 1 tt o)
   runs (Refused k) o = absurd (miss (0 ∷ []) 2 tt o)
@@ -94,7 +94,7 @@ module _ (d : Done) (x : ConnectionEngine) (s a s' a' : List ℕ) where
   unfolding reply_bytes bytes_of
   goes_on_lem v p l = l ∙ ap (λ i. put a 0 (laid_out 0 0 i d.consumed d.written)) p
 
-  pub finish_continue : OneOf (0 ∷ []) (tag_of running-type d.running) → Lays 0 0 d x s a s' a' → Finishes d x s a 0 s' a'
+  pub finish_continue : OneOf (0 ∷ []) (tag_of running_type d.running) → Lays 0 0 d x s a s' a' → Finishes d x s a 0 s' a'
   finish_continue o l =
       let e = runs d.running o in
       record {

@@ -22,7 +22,7 @@ use Rattle.channels.specs.Ties.{handle_of}
 use Rattle.channels.specs.Channels.{agreed_max_says}
 use Rattle.channels.specs.declared.AgreedMax.{AgreedMax}
 use Rattle.channels.specs.declared.AgreedMax.TheVariants.{Absent, Is as Agreed}
-use Rattle.channels.specs.contracts.AgreedMax.{the_type as agreed-type}
+use Rattle.channels.specs.contracts.AgreedMax.{the_type as agreed_type}
 use Rattle.connection_state.specs.declared.ConnectionState.{ConnectionState}
 use Rattle.connection_state.specs.Answers.{state_says}
 use Rattle.connection_state.specs.States.{numbered}
@@ -32,7 +32,7 @@ use Rattle.endpoint.specs.Answers.{role_says}
 use Rattle.connection.specs.declared.Connection.{Connection}
 use Rattle.connection.specs.declared.HandleAnswer.{HandleAnswer}
 use Rattle.connection.specs.declared.HandleAnswer.TheVariants.{Handle, Nothing, Refused}
-use Rattle.connection.specs.contracts.HandleAnswer.{the_type as handle-type}
+use Rattle.connection.specs.contracts.HandleAnswer.{the_type as handle_type}
 use Rattle.connection.specs.Promises.{Counts, Looks}
 use Rattle.connection.specs.View as View
 use Rattle.engine_model.specs.Engine as M
@@ -71,7 +71,7 @@ module _ (a a' : List ℕ) where
   pub puts_there : (x : HandleAnswer) (h : ℕ) → x ≡ Handle h → a' ≡ put a 0 (may 4 (held true h)) → PutsHandle (View.handle_says x) a 0 a'
   puts_there x h e p = puts_found (View.handle_says x) (some h) (ap View.handle_says e) p
 
-  pub puts_nothing : (x : HandleAnswer) (n : ℕ) → OneOf (1 ∷ []) (tag_of handle-type x) → a' ≡ put a 0 (may 4 (held false n)) → PutsHandle (View.handle_says x) a 0 a'
+  pub puts_nothing : (x : HandleAnswer) (n : ℕ) → OneOf (1 ∷ []) (tag_of handle_type x) → a' ≡ put a 0 (may 4 (held false n)) → PutsHandle (View.handle_says x) a 0 a'
   puts_nothing (Handle h) n t p = absurd (miss (1 ∷ []) 0 tt t)
   puts_nothing Nothing n t p = puts_found (accept none) none refl p
   puts_nothing (Refused k) n t p = absurd (miss (1 ∷ []) 2 tt t)
@@ -89,7 +89,7 @@ module _ (d o : List ℕ) where
   pub agreed_there : (x : AgreedMax) (m : ℕ) → x ≡ Agreed m → o ≡ put d 12 (may 2 (held true m)) → o ≡ put d 12 (may 2 (agreed_max_says x))
   agreed_there x m e p = p ∙ ap (λ y. put d 12 (may 2 (agreed_max_says y))) (sym e)
 
-  pub agreed_not : (x : AgreedMax) (n : ℕ) → OneOf (0 ∷ []) (tag_of agreed-type x) → o ≡ put d 12 (may 2 (held false n)) → o ≡ put d 12 (may 2 (agreed_max_says x))
+  pub agreed_not : (x : AgreedMax) (n : ℕ) → OneOf (0 ∷ []) (tag_of agreed_type x) → o ≡ put d 12 (may 2 (held false n)) → o ≡ put d 12 (may 2 (agreed_max_says x))
   agreed_not Absent n t p = p
   agreed_not (Agreed m) n t p = absurd (miss (0 ∷ []) 1 tt t)
 

@@ -25,11 +25,11 @@ use Rattle.connection.specs.declared.AllocateAnswer.{AllocateAnswer}
 use Rattle.connection.specs.declared.AllocateAnswer.TheVariants.{Channel, Refused as NoChannel}
 use Rattle.connection.specs.declared.TickAnswer.{TickAnswer}
 use Rattle.connection.specs.declared.TickAnswer.TheVariants.{Wrote, Stop as Idle, Refused as NotTicked}
-use Rattle.connection.specs.contracts.TickAnswer.{the_type as tick-type}
+use Rattle.connection.specs.contracts.TickAnswer.{the_type as tick_type}
 use Rattle.endpoint.specs.Answers.{answer_says, sent_says}
 use Rattle.endpoint.specs.declared.FrameAnswer.{FrameAnswer}
 use Rattle.endpoint.specs.declared.FrameAnswer.TheVariants.{NothingToDo, Opened, Closed, Forward, Began, Refused as NoFrame}
-use Rattle.endpoint.specs.contracts.FrameAnswer.{the_type as frame-type}
+use Rattle.endpoint.specs.contracts.FrameAnswer.{the_type as frame_type}
 use Rattle.connection.specs.declared.DeallocateAnswer.{DeallocateAnswer}
 use Rattle.connection.specs.declared.DeallocateAnswer.TheVariants.{Freed, Refused as NotFreed}
 use Rattle.engine.specs.declared.Running.{Running}
@@ -75,12 +75,12 @@ module _ (r : I.Inner) where
   pub no_header_inner : (a : HeaderAnswer) (k : ℕ) → a ≡ NoHeader k → inner_says r ≡ inner 1 k 0 0 0 0 → inner_says r ≡ inner_of (some (header_says a))
   no_header_inner a k e p = p ∙ ap (λ x. inner_of (some (header_says x))) (sym e)
 
-  pub tick_inner : (a : TickAnswer) → OneOf (0 ∷ []) (tag_of tick-type a) → inner_says r ≡ inner 2 0 0 0 0 0 → inner_says r ≡ inner_of (some (tick_says a))
+  pub tick_inner : (a : TickAnswer) → OneOf (0 ∷ []) (tag_of tick_type a) → inner_says r ≡ inner 2 0 0 0 0 0 → inner_says r ≡ inner_of (some (tick_says a))
   tick_inner (Wrote n) o p = p
   tick_inner Idle o p = absurd (miss (0 ∷ []) 1 tt o)
   tick_inner (NotTicked k) o p = absurd (miss (0 ∷ []) 2 tt o)
 
-  pub end_inner : (a : TickAnswer) → OneOf (1 ∷ []) (tag_of tick-type a) → inner_says r ≡ inner 3 0 0 0 0 0 → inner_says r ≡ inner_of (some (tick_says a))
+  pub end_inner : (a : TickAnswer) → OneOf (1 ∷ []) (tag_of tick_type a) → inner_says r ≡ inner 3 0 0 0 0 0 → inner_says r ≡ inner_of (some (tick_says a))
   end_inner (Wrote n) o p = absurd (miss (1 ∷ []) 0 tt o)
   end_inner Idle o p = p
   end_inner (NotTicked k) o p = absurd (miss (1 ∷ []) 2 tt o)
@@ -97,7 +97,7 @@ module _ (r : I.Inner) where
   pub unfreed_inner : (a : DeallocateAnswer) (k : ℕ) → a ≡ NotFreed k → inner_says r ≡ inner 1 k 0 0 0 0 → inner_says r ≡ inner_of (some (freed_says a))
   unfreed_inner a k e p = p ∙ ap (λ x. inner_of (some (freed_says x))) (sym e)
 
-  pub nothing_inner : (a : FrameAnswer) → OneOf (0 ∷ []) (tag_of frame-type a) → inner_says r ≡ inner 6 0 0 0 0 0 → inner_says r ≡ inner_of (some (answer_says a))
+  pub nothing_inner : (a : FrameAnswer) → OneOf (0 ∷ []) (tag_of frame_type a) → inner_says r ≡ inner 6 0 0 0 0 0 → inner_says r ≡ inner_of (some (answer_says a))
   nothing_inner (NothingToDo n) o p = p
   nothing_inner (Opened n idle) o p = absurd (miss (0 ∷ []) 1 tt o)
   nothing_inner (Closed n error) o p = absurd (miss (0 ∷ []) 2 tt o)

@@ -1,8 +1,8 @@
 -- What two engines must share to behave alike for ever, of the calls that a firmware makes.
 --
 -- A run lends each call the state that the last one left: nobody else writes to it meanwhile, its tables among it. Take two states in which the library made an engine of the same role and settings, and bring each to where it stands by a list of calls from C, each lent the state that the last one left, refused ones included. What the firmware sees of
--- them, number, answer and output of each call, is what the definition shows (`shown-so`), and the state stands for the definition's engine (`leads-to`). If the two engines are in one phase and their connections have equal
--- accounts, all of which is computed from role, settings and calls alone, then whatever later list of calls is made on both with the same arguments, it returns the same numbers and leaves the same answers and output bytes (`alike-for-ever`).
+-- them, number, answer and output of each call, is what the definition shows (`shown_so`), and the state stands for the definition's engine (`leads_to`). If the two engines are in one phase and their connections have equal
+-- accounts, all of which is computed from role, settings and calls alone, then whatever later list of calls is made on both with the same arguments, it returns the same numbers and leaves the same answers and output bytes (`alike_for_ever`).
 --
 -- The other half of demand 3 is not claimed of an engine. In a phase that takes no event no call tells which channels are taken, so that engines with different accounts can be alike; of a connection it is proved (crates/connection/proofs/Theorem.antt).
 -- Assumes nothing.

@@ -1,5 +1,5 @@
--- Laws of the definitions, for the crates above: where a performative lies, with what it is refused, and which descriptors there are. Results: `performative-local` (what
--- stands after a performative is not looked at) and `condition-lies` (the condition of an error lies in its performative).
+-- Laws of the definitions, for the crates above: where a performative lies, with what it is refused, and which descriptors there are. Results: `performative_local` (what
+-- stands after a performative is not looked at) and `condition_lies` (the condition of an error lies in its performative).
 -- Assumes nothing.
 use mathlib.Core.Path.{◌≡◌, refl, sym, ap, ◌∙◌, subst}
 use mathlib.Core.Bool.{Bool, true, false, cond}

@@ -1,4 +1,4 @@
--- Laws of protocol headers. Results: `read-written` (what was written is read), `write_read` (what was read is written as it stood), `eight-decide` (what stands after the
+-- Laws of protocol headers. Results: `read_written` (what was written is read), `write_read` (what was read is written as it stood), `eight_decide` (what stands after the
 -- eighth byte is not looked at), `same_id` and `same_answer` (no two answers say the same).
 -- Assumes nothing.
 use mathlib.Core.Path.{◌≡◌, refl, ap, ◌∙◌}

@@ -27,7 +27,7 @@ use Rattle.frame_decoder.specs.declared.Frame as F
 use Rattle.frame_decoder.specs.declared.Frame.TheVariants.{Refused as NoFrame, Empty, Body}
 use Rattle.frame_decoder.specs.Frame.{Frame, FrameSaid, body_in, body_of, any_size, any_channel, session_frame, session_said}
 use Rattle.frame_decoder.specs.Answers.{frame_says, session_answer}
-use Rattle.frame_decoder.proofs.Laws.{session_was, sendable_was, body_is as frame-body}
+use Rattle.frame_decoder.proofs.Laws.{session_was, sendable_was, body_is as frame_body}
 use Rattle.session_frame.specs.declared.field.Kept.{Kept}
 use Rattle.session_frame.specs.declared.Plan.{Plan}
 use Rattle.session_frame.specs.Session.{performative_written, session_bytes, write_session}
@@ -205,7 +205,7 @@ module _ (highest : ℕ) (s : List ℕ) (limit : ℕ) (out : List ℕ) where
             read = a.0;
             is = a.1;
             on = ap (λ (x : FrameSaid). x.channel) (sym a.2);
-            body = frame-body any_size any_channel s a.0.0 w.0 (omega arith) (omega arith);
+            body = frame_body any_size any_channel s a.0.0 w.0 (omega arith) (omega arith);
             holds = (sendable_was highest (body_in a.0.0 s) a.0.1 w.1).reads;
           }
 
