@@ -1,7 +1,7 @@
 #!/usr/bin/env python3
 """Holds the headers in include/ to the Rattle sources. Run in the repository's top folder.
 
-Sizes and limits, outcomes, states and kinds must be the same numbers under the same names, in both directions; the places in an answer must fill it; and every
+Sizes and limits, outcomes, states, refusals and kinds must be the same numbers under the same names, in both directions; the places in an answer must fill it; and every
 exported function must have a prototype with the same parameters, by type and by name and in the same order: a slice `x` is a pointer `x` and a length `x_len`. A
 fault is a line of its own.
 """
@@ -14,6 +14,8 @@ READER = "crates/frame_reader/src"
 BYTES = "crates/engine_bytes/src"
 PLACES = "crates/channels/src/places.rt"
 STATES = "crates/connection_state/src/lib.rt"
+REFUSALS = "crates/octets/src/lib.rt"
+ENGINE = "crates/engine/src/lib.rt"
 CONNECTION = "crates/connection/src/lib.rt"
 
 # the header's constants that are constants in the sources: the file and the name there
@@ -27,6 +29,16 @@ CONSTANTS = {
     "HISPROAT_MIN_FRAME_SIZE": (CONNECTION, "MIN_MAX_FRAME_SIZE"),
     "HISPROAT_MAX_FRAME_SIZE": (CONNECTION, "MAX_FRAME_SIZE"),
     "HISPROAT_OUTPUT_ROOM": (CONNECTION, "MAX_FRAME_SIZE"),
+}
+
+# variants of the sources that the header calls otherwise
+CALLED = {
+    "TOO_SHORT": "LENGTH_UNDER_8",
+    "WRONG_TYPE": "FRAME_TYPE",
+    "OUT_OF_BOUNDS": "BEYOND_LIMITS",
+    "NOT_TAKEN": "CHANNEL_NOT_TAKEN",
+    "NO_CALL": "NONE",
+    "NOTHING_TO_DO": "NOTHING",
 }
 
 # the last place of an answer, how many bytes it has, and the answer's size
@@ -64,10 +76,22 @@ def shouted(name):
     return re.sub(r"(?<=[a-z])(?=[A-Z])", "_", name).upper()
 
 
-def arms(path, function, enum):
-    """The numbers that a function's match gives the variants of an enum."""
-    body = re.search(rf"\bfn {function}\(.*?\n\s*\}}\n\s*\}}", source(path), re.S)
-    return {shouted(name): int(n) for name, n in re.findall(rf"{enum}::(\w+) => (\d+)", body[0] if body else "")}
+def variants(path, enum):
+    """The variants of an enum without fields, in their order."""
+    body = re.search(rf"\benum {enum} \{{(.*?)\}}", source(path), re.S)
+    return re.findall(r"\w+", body[1]) if body else []
+
+
+def arms(path, function, enum, declared):
+    """The numbers that a function gives the variants of an enum: by a match, or by `as u8` in their order. Where it is a method it stands in the enum's own impl."""
+    text = source(path)
+    own = re.search(rf"^impl {enum} \{{.*?^\}}", text, re.S | re.M)
+    body = re.search(rf"\bfn {function}\(.*?^\s*\{{(.*?)^(?:    )?\}}$", own[0] if own else text, re.S | re.M)
+    found = dict(re.findall(rf"{enum}::(\w+) => (\d+)", body[1])) if body else {}
+    if body and re.fullmatch(r"\s*\w+ as u8\s*", body[1]):
+        found = {name: n for n, name in enumerate(variants(declared, enum))}
+    names = {name: shouted(name) for name in found}
+    return {CALLED.get(names[name], names[name]): int(n) for name, n in found.items()}
 
 
 def exported(path):
@@ -111,9 +135,10 @@ def main():
 
     tables = [
         ("constant", {name: numbers.get(name) for name in CONSTANTS}, {name: constant(*where) for name, where in CONSTANTS.items()}),
-        ("outcome", under("HISPROAT_OUTCOME_"), arms(BYTES, "outcome_number", "Outcome")),
-        ("state", under("HISPROAT_STATE_"), arms(STATES, "number", "ConnectionState")),
-        ("kind", under("HISPROAT_KIND_"), {name: int(n) for name, n in re.findall(r"\bconst KIND_(\w+): u8 = (\d+);", source(LIBRARY))}),
+        ("outcome", under("HISPROAT_OUTCOME_"), arms(BYTES, "outcome_number", "Outcome", ENGINE)),
+        ("state", under("HISPROAT_STATE_"), arms(STATES, "number", "ConnectionState", STATES)),
+        ("refusal", under("HISPROAT_REFUSED_"), arms(REFUSALS, "number", "Refusal", REFUSALS)),
+        ("kind", under("HISPROAT_KIND_"), arms(LIBRARY, "number", "Kind", LIBRARY)),
         ("function", prototypes(header), exported(LIBRARY)),
         ("the reader's function", prototypes(reader), exported(READER)),
         ("size", {size: numbers.get(size) for _, _, size in ANSWERS}, {size: numbers.get(last, 0) + width for last, width, size in ANSWERS}),

@@ -60,7 +60,7 @@ def public_functions(crate):
     for file, module in files.items():
         of = module
         for line in text(file).splitlines():
-            if head := re.match(r"impl (\w+)", line):
+            if head := re.match(r"impl (\w+) \{", line):
                 of = types[head[1]] + head[1] + "::"
             elif line == "}":
                 of = module
@@ -190,7 +190,7 @@ def faults_of(name, edit):
         faults += [f"the law {law} does not fail as its `theorem:` lines have it" for law in sorted(theorem ^ laws)]
     faults += [f"no fact fails in {function}" for function in sorted(refused - wrong)]
     faults += [f"{function} is wrong, and not on a `refused:` line" for function in sorted(wrong - refused)]
-    faults += [f"{function} falls, and is not on a `callers:` line" for function in sorted(fallen - wrong - callers)]
+    faults += [f"{function} falls, and is not on a `callers:` line" for function in sorted(fallen - wrong - callers) if not any(function.startswith(f"fn::{of}::") for of in wrong | callers)]  # a closure falls with its function
     faults += [f"{function} does not fall as a caller" for function in sorted(callers - (fallen - wrong))]
     return faults
 

@@ -14,130 +14,100 @@
 #![tactic(auto)]
 
 mod answers;
-mod calls;
-mod events;
 mod frames;
+mod operations;
 mod setting;
+mod subject;
 
-use engine::{ConnectionEngine, NewEngine};
+use engine::ConnectionEngine;
+use operations::{Operation, Room};
 use std::io::{self, Read};
-use words::{decimal, find, part, word};
 
-fn print(rt: &impl Print, text: &[u8]) -> io::Result<()> {
-    rt.write_all(text)
-}
-
-fn print_number(rt: &impl Print, n: u64) -> io::Result<()> {
-    rt.print(n)
-}
+// How many bytes of input are read.
+const MOST: u64 = 4096;
 
 // The last channel, where there are n sessions.
 fn last_channel(n: u64) -> u16 {
-    if n == 0 {
-        return 0;
-    }
-    if 2048 < n {
-        return 2047;
-    }
-    (n - 1) as u16
+    (n.clamp(1, 2048) - 1) as u16
 }
 
-// Events of an engine
+// Operations as events of an engine.
 fn run_events(
     fresh: ConnectionEngine,
-    letter: u8,
+    operation: Operation,
     last: u16,
     rounds: u64,
-    tables: &mut [u8],
-    out: &mut [u8],
+    room: &mut Room<'_>,
 ) -> u64 {
-    if letter == b'o' {
-        return events::opens(setting::exchanged(fresh, out), rounds, tables, out);
+    if let Operation::Open = operation {
+        return operations::opens(setting::exchanged(fresh, room.out), rounds, room);
     }
-    let hub = setting::with_sessions(fresh, last, tables, out);
-    match letter {
-        b't' => events::transfers(hub, last, rounds, tables, out),
-        b'p' => events::pairs(hub, last, rounds, tables),
-        _ => events::ticks(hub, rounds, out),
+    let hub = setting::with_sessions(fresh, last, room);
+    match operation {
+        Operation::Transfer => operations::transfers(hub, last, rounds, room),
+        Operation::Pair => operations::pairs(hub, last, rounds, room),
+        _ => operations::ticks(hub, rounds, room),
     }
 }
 
-// Calls of the connection inside
+// Operations as calls of the connection inside.
 fn run_calls(
     fresh: ConnectionEngine,
-    letter: u8,
+    operation: Operation,
     last: u16,
     rounds: u64,
-    tables: &mut [u8],
-    out: &mut [u8],
+    room: &mut Room<'_>,
 ) -> u64 {
-    if letter == b'o' {
-        let waiting = setting::exchanged(fresh, out);
-        return calls::opens(waiting.connection(), rounds, tables);
+    if let Operation::Open = operation {
+        let waiting = setting::exchanged(fresh, room.out);
+        return operations::opens(waiting.connection(), rounds, room);
     }
-    let engine = setting::with_sessions(fresh, last, tables, out);
-    let hub = engine.connection();
-    match letter {
-        b't' => calls::transfers(hub, last, rounds, tables),
-        b'p' => calls::pairs(hub, last, rounds, tables),
-        _ => calls::ticks(hub, last, rounds, tables, out),
+    let hub = setting::with_sessions(fresh, last, room).connection();
+    match operation {
+        Operation::Transfer => operations::transfers(hub, last, rounds, room),
+        Operation::Pair => operations::pairs(hub, last, rounds, room),
+        _ => operations::transfers_and_ticks(hub, last, rounds, room),
     }
 }
 
-// The first letter of the operation. Those of `transfer` and `tick` are told apart by the second.
-fn letter(name: &[u8]) -> u8 {
-    if name.len() < 2 {
-        return 0;
+// The sum of what a line's operation answers.
+fn run(line: &[u8], room: &mut Room<'_>) -> u64 {
+    let mut words = line.split(|b| *b == b' ').filter(|word| !word.is_empty());
+    let _on = words.next();
+    let operation = Operation::from(words.next().unwrap_or_default());
+    let last = last_channel(words::decimal(words.next().unwrap_or_default()));
+    let rounds = words::decimal(words.next().unwrap_or_default());
+    match line.first() {
+        None => return 0,
+        Some(b'f') => return frames::writes(rounds, room.out),
+        Some(_) => {}
     }
-    if name[1] == b'i' {
-        return 0;
-    }
-    name[0]
-}
-
-fn run(line: &[u8], last: u16, rounds: u64, tables: &mut [u8], out: &mut [u8]) -> u64 {
-    let letter = letter(word(line, 1));
-    if line.len() == 0 {
-        return 0;
-    }
-    if line[0] == b'f' {
-        return frames::writes(rounds, out);
-    }
-    let NewEngine::Made(fresh) = setting::hub(tables) else {
+    let Ok(fresh) = setting::hub(room.tables) else {
         return 0;
     };
-    if line[0] == b'c' {
-        return run_calls(fresh, letter, last, rounds, tables, out);
+    if line.starts_with(b"c") {
+        run_calls(fresh, operation, last, rounds, room)
+    } else {
+        run_events(fresh, operation, last, rounds, room)
     }
-    run_events(fresh, letter, last, rounds, tables, out)
-}
-
-fn run_line(rt: &impl Print, line: &[u8], tables: &mut [u8], out: &mut [u8]) -> io::Result<()> {
-    let last = last_channel(decimal(word(line, 2)));
-    let sum = run(line, last, decimal(word(line, 3)), tables, out);
-    print(rt, line)?;
-    print(rt, b": ")?;
-    print_number(rt, sum)?;
-    print(rt, b"\n")
-}
-
-fn run_lines(rt: &impl Print, text: &[u8], tables: &mut [u8], out: &mut [u8]) -> io::Result<()> {
-    let mut at: usize = 0;
-    while at < text.len() {
-        let end = find(text, at, b'\n');
-        run_line(rt, part(text, at, end), tables, out)?;
-        if text.len() <= end {
-            return Ok(());
-        }
-        at = end + 1;
-    }
-    Ok(())
 }
 
 fn main(rt: HostRuntime) -> io::Result<()> {
-    let mut text = [0u8; 4096];
-    let n = io::copy(&mut rt.stdin().take(4096), &mut &mut text[..])? as usize;
+    let mut text = Vec::new(rt.alloc());
+    rt.stdin().take(MOST).read_to_end(&mut text)?;
+    // Arrays, whose length the compiler knows: with a Vec a round of `write` takes two fifths more instructions.
     let mut tables = [0u8; 65536];
     let mut out = [0u8; 65536];
-    run_lines(&rt, part(&text, 0, n), &mut tables, &mut out)
+    for ended in text.split_inclusive(|b| *b == b'\n') {
+        let line = ended.strip_suffix(b"\n").unwrap_or(ended);
+        let mut room = Room {
+            tables: &mut tables,
+            out: &mut out,
+        };
+        let sum = run(line, &mut room);
+        // as bytes, since a line need be no text
+        rt.write_all(line)?;
+        println!(rt; ": {sum}")?;
+    }
+    Ok(())
 }

@@ -1,6 +1,8 @@
 // A hub with sessions, as the operations find it, and the frames that are handed to it.
-use engine::{ConnectionEngine, NewEngine};
-use frame_encoder::IdleTimeOut;
+use crate::operations::Room;
+use engine::ConnectionEngine;
+use frame_encoder::Settings;
+use octets::Refusal;
 
 // An Open of container-id pad, max-frame-size 4,096, channel-max 2,047 and idle-time-out 30,000. The idle-time-out's last byte is at place 32.
 pub(crate) const OPEN: [u8; 33] = [
@@ -20,14 +22,13 @@ pub(crate) const TRANSFER: [u8; 26] = [
 
 // Sets a frame's channel.
 pub(crate) fn set_channel(frame: &mut [u8], channel: u16) {
-    octets::put_number(frame, 6, 2, channel as u64);
+    octets::put_number(frame, 6, 2, u64::from(channel));
 }
 
 // Sets the last byte.
 pub(crate) fn set_last(frame: &mut [u8], b: u8) {
-    if 0 < frame.len() {
-        let last = frame.len() - 1;
-        frame[last] = b;
+    if let Some(last) = frame.last_mut() {
+        *last = b;
     }
 }
 
@@ -35,8 +36,14 @@ pub(crate) fn set_last(frame: &mut [u8], b: u8) {
 const CHANNEL_MAX: u16 = 2047;
 
 // A new hub.
-pub(crate) fn hub(tables: &mut [u8]) -> NewEngine {
-    ConnectionEngine::listener(b"hub", 16384, CHANNEL_MAX, IdleTimeOut::Never, tables)
+pub(crate) fn hub(tables: &mut [u8]) -> Result<ConnectionEngine, Refusal> {
+    let settings = Settings {
+        container_id: b"hub",
+        max_frame_size: 16384,
+        channel_max: CHANNEL_MAX,
+        idle_time_out: None,
+    };
+    ConnectionEngine::listener(&settings, tables)
 }
 
 // A hub whose headers are exchanged, and which waits for the pad's Open.
@@ -47,45 +54,27 @@ pub(crate) fn exchanged(fresh: ConnectionEngine, out: &mut [u8]) -> ConnectionEn
     received.engine
 }
 
-fn opened(fresh: ConnectionEngine, tables: &mut [u8], out: &mut [u8]) -> ConnectionEngine {
-    let waiting = exchanged(fresh, out);
-    let received = waiting.on_incoming(tables, &OPEN, 0, b"", out);
+fn opened(fresh: ConnectionEngine, room: &mut Room<'_>) -> ConnectionEngine {
+    let waiting = exchanged(fresh, room.out);
+    let received = waiting.on_incoming(room.tables, &OPEN, 0, b"", room.out);
     let answering = received.engine;
-    let sent = answering.send_open(b"hub", out);
+    let sent = answering.send_open(b"hub", room.out);
     sent.engine
-}
-
-fn begun(
-    hub: ConnectionEngine,
-    channel: u16,
-    handle: u32,
-    tables: &mut [u8],
-    out: &mut [u8],
-) -> ConnectionEngine {
-    let mut frame = BEGIN;
-    set_channel(&mut frame, channel);
-    let received = hub.on_incoming(tables, &frame, handle, b"", out);
-    received.engine
 }
 
 // A hub with a session on each channel from 0 to the last. The handles are 1000 and on.
 pub(crate) fn with_sessions(
     fresh: ConnectionEngine,
     last: u16,
-    tables: &mut [u8],
-    out: &mut [u8],
+    room: &mut Room<'_>,
 ) -> ConnectionEngine {
-    let mut hub = opened(fresh, tables, out);
-    let mut k: u32 = 0;
-    while k <= (last as u32) {
-        hub = begun(hub, k as u16, 1000 + k, tables, out);
-        k += 1;
+    let mut hub = opened(fresh, room);
+    let mut frame = BEGIN;
+    for channel in 0..=last {
+        set_channel(&mut frame, channel);
+        let handle = 1000 + u32::from(channel);
+        let received = hub.on_incoming(room.tables, &frame, handle, b"", room.out);
+        hub = received.engine;
     }
     hub
-}
-
-// How many sessions a hub has.
-pub(crate) fn sessions(hub: ConnectionEngine) -> u64 {
-    let connection = hub.connection();
-    connection.taken_count() as u64
 }

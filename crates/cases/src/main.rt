@@ -23,129 +23,69 @@
 #![tactic(auto)]
 
 mod answers;
-mod runs;
+mod case;
+mod output;
 mod spelling;
 
-ghost use Rattle.std.specs.Prelude.{◌≡◌, length};
-
+use answers::Answer;
+use case::{Case, LineError};
 use std::io::{self, Read};
-use words::{find, part};
 
-// What became of a line.
-#[derive(Clone, Copy)]
-enum Outcome {
-    NoCase,
-    Right,
-    Wrong,
+// How many bytes of input are read.
+const MOST: u64 = 1_048_576;
+
+// The expected answer of a line: what stands between the first `=` and the first `;`.
+fn wanted_in(line: &[u8]) -> &[u8] {
+    let from = line
+        .iter()
+        .position(|b| *b == b'=')
+        .map_or(line.len(), |at| at + 1);
+    let end = line.iter().position(|b| *b == b';').unwrap_or(line.len());
+    line.get(from..end).unwrap_or_default()
 }
 
-// How many lines there were, how many cases, and how many of these went wrong.
-#[derive(Clone, Copy)]
-struct Tally {
-    lines: u64,
-    run: u64,
-    wrong: u64,
-}
-
-fn counted(t: Tally, o: Outcome) -> Tally {
-    match o {
-        Outcome::NoCase => t,
-        Outcome::Right => Tally {
-            lines: t.lines,
-            run: std::num::wrapping_add_u64(t.run, 1),
-            wrong: t.wrong,
-        },
-        Outcome::Wrong => Tally {
-            lines: t.lines,
-            run: std::num::wrapping_add_u64(t.run, 1),
-            wrong: std::num::wrapping_add_u64(t.wrong, 1),
-        },
-    }
-}
-
-fn print(rt: &impl Print, text: &[u8]) -> io::Result<()> {
-    rt.write_all(text)
-}
-
-fn print_number(rt: &impl Print, n: u64) -> io::Result<()> {
-    rt.print(n)
-}
-
-// The place after the first b; the end where there is none.
-fn after(s: &[u8], b: u8) -> usize {
-    let at = find(s, 0, b);
-    if at < s.len() {
-        return at + 1;
-    }
-    at
-}
-
-// Runs the case of a line, with its bytes spelled out.
-fn judge(rt: &impl Print, line: &[u8], number: u64) -> io::Result<Outcome> {
-    let wanted = part(line, after(line, b'='), find(line, 0, b';'));
-    let a = runs::answer(rt, line, wanted)?;
-    if answers::agrees(&a, wanted) {
-        return Ok(Outcome::Right);
-    }
-    print(rt, b"line ")?;
-    print_number(rt, number)?;
-    print(rt, b": got")?;
-    answers::print(rt, &a)?;
-    print(rt, b" and wanted")?;
-    print(rt, wanted)?;
-    print(rt, b"\n")?;
-    Ok(Outcome::Wrong)
-}
-
-fn run_line(rt: &impl Print, written: &[u8], number: u64, line: &mut [u8]) -> io::Result<Outcome> {
-    if written.len() == 0 {
-        return Ok(Outcome::NoCase);
-    }
-    if written[0] == b'#' {
-        return Ok(Outcome::NoCase);
-    }
-    let n = spelling::spelled(written, line);
-    judge(rt, part(line, 0, n), number)
-}
-
-fn run_lines(rt: &impl Print, text: &[u8], line: &mut [u8]) -> io::Result<Tally> {
-    let mut tally = Tally {
-        lines: 0,
-        run: 0,
-        wrong: 0,
+// Runs the case of a line, with its bytes spelled out, and says whether it went right.
+fn is_right(rt: &(impl Print + AllocGlobal), number: usize, line: &[u8]) -> io::Result<bool> {
+    let alloc = rt.alloc();
+    let wanted = wanted_in(line);
+    let wanted_words = spelling::words(alloc, wanted)?;
+    let word = wanted_words.get(1).copied().unwrap_or_default();
+    let answer = match Case::parse(alloc, line) {
+        Ok(case) => case.answer(rt, word)?,
+        Err(LineError::Bad) => Answer::BadLine,
+        Err(LineError::Memory(error)) => return Err(io::Error::from(error)),
     };
-    let mut at: usize = 0;
-    while at < text.len() {
-        let end = find(text, at, b'\n');
-        tally.lines = std::num::wrapping_add_u64(tally.lines, 1);
-        let o = run_line(rt, part(text, at, end), tally.lines, line)?;
-        tally = counted(tally, o);
-        if text.len() <= end {
-            return Ok(tally);
-        }
-        at = end + 1;
+    let text = answer.text(alloc, word)?;
+    let words = spelling::words(alloc, &text)?;
+    if answers::agree(&words, &wanted_words) {
+        return Ok(true);
     }
-    Ok(tally)
-}
-
-// Room for the whole input, or for a line of it spelled out.
-fn text_buffer() -> [u8; 1_048_576]
-    ensures { 1048576 ≡ length result }
-{
-    [0; 1_048_576]
+    print!(rt; "line {number}: got")?;
+    for word in words.iter() {
+        answers::print_word(rt, word)?;
+    }
+    // as bytes, since what is wanted need be no text
+    rt.write_all(b" and wanted")?;
+    rt.write_all(wanted)?;
+    rt.write_all(b"\n")?;
+    Ok(false)
 }
 
 fn main(rt: HostRuntime) -> io::Result<()> {
-    let mut text = text_buffer();
-    let n = io::copy(&mut rt.stdin().take(1_048_576), &mut &mut text[..])? as usize;
-    let mut line = text_buffer();
-    let tally = run_lines(&rt, part(&text, 0, n), &mut line)?;
-    if n == 1_048_576 {
-        print(&rt, b"cases: only the first 1048576 bytes were read\n")?;
+    let alloc = rt.alloc();
+    let mut text = Vec::new(alloc);
+    let read = rt.stdin().take(MOST).read_to_end(&mut text)?;
+    let mut outcomes = Vec::new(alloc);
+    for (i, line) in text.split(|b| *b == b'\n').enumerate() {
+        if !line.is_empty() && !line.starts_with(b"#") {
+            let spelled = spelling::spelled(alloc, line)?;
+            outcomes.push(is_right(&rt, i + 1, &spelled)?)?;
+        }
     }
-    print(&rt, b"cases: ")?;
-    print_number(&rt, tally.run)?;
-    print(&rt, b" run, ")?;
-    print_number(&rt, tally.wrong)?;
-    print(&rt, b" wrong\n")
+    if read as u64 == MOST {
+        println!(rt; "cases: only the first 1048576 bytes were read")?;
+    }
+    let run = outcomes.len();
+    let wrong = outcomes.iter().filter(|right| !**right).count();
+    println!(rt; "cases: {run} run, {wrong} wrong")
 }

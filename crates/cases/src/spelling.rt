@@ -1,120 +1,71 @@
-// How a line spells its numbers and its bytes.
-ghost use Rattle.std.specs.Prelude.{◌≤◌};
+// How a line spells its words, its numbers and its bytes.
+use std::alloc::{AllocError, Global};
 
-// The first place from `from` on where s has no decimal digit.
-fn number_end(s: &[u8], from: usize) -> usize
-    ensures { from ≤ result }
-{
-    let mut i = from;
-    while i < s.len() {
-        if 10 <= words::digit(s[i]) {
-            return i;
-        }
-        i += 1;
-    }
-    i
+// How many bytes a line has at most, spelled out.
+const ROOM: usize = 1_048_576;
+
+// The words of a line.
+pub(crate) fn words(alloc: Global, line: &[u8]) -> Result<Vec<&[u8]>, AllocError> {
+    line.split(|b| *b == b' ')
+        .filter(|word| !word.is_empty())
+        .collect(alloc)
 }
 
-pub(crate) fn is_number(w: &[u8]) -> bool {
-    if w.len() == 0 {
-        return false;
-    }
-    number_end(w, 0) == w.len()
-}
-
-pub(crate) fn number8(w: &[u8]) -> u8 {
-    let n = words::decimal(w);
-    if n < 256 {
-        return n as u8;
-    }
-    255
-}
-
-pub(crate) fn number16(w: &[u8]) -> u16 {
-    let n = words::decimal(w);
-    if n < 65536 {
-        return n as u16;
-    }
-    65535
-}
-
-pub(crate) fn number32(w: &[u8]) -> u32 {
-    let n = words::decimal(w);
-    if n < 4294967296 {
-        return n as u32;
-    }
-    4294967295
+pub(crate) fn is_number(word: &[u8]) -> bool {
+    !word.is_empty() && word.iter().all(|b| b.is_ascii_digit())
 }
 
 // Whether a word is bytes in hexadecimal: `-` for none, or pairs of digits for at most 65,536 bytes.
-pub(crate) fn is_bytes(w: &[u8]) -> bool {
-    if w == b"-".as_slice() {
-        return true;
-    }
-    if w.len() == 0 {
-        return false;
-    }
-    if w.len() % 2 == 1 {
-        return false;
-    }
-    if 131_072 < w.len() {
-        return false;
-    }
-    let mut i: usize = 0;
-    while i < w.len() {
-        if 16 <= words::digit(w[i]) {
-            return false;
+pub(crate) fn is_bytes(word: &[u8]) -> bool {
+    word == b"-".as_slice()
+        || !word.is_empty()
+            && word.len() % 2 == 0
+            && word.len() <= 131_072
+            && word.iter().all(|b| words::digit(*b).is_some())
+}
+
+// The bytes that a word says, up to so many. Two digits are a byte, and what is no digit counts as 0.
+pub(crate) fn bytes(alloc: Global, word: &[u8], most: usize) -> Result<Vec<u8>, AllocError> {
+    let mut bytes = vec![in alloc; 0; (word.len() / 2).min(most)]?;
+    let _ = words::hex(word, &mut bytes);
+    Ok(bytes)
+}
+
+// Has the last two bytes so many times in all, as far as there is room.
+fn repeat(out: &mut Vec<u8>, times: u64) -> Result<(), AllocError> {
+    let [.., high, low] = *out.as_slice() else {
+        return Ok(());
+    };
+    for _ in 1..times {
+        if ROOM <= out.len() {
+            break;
         }
-        i += 1;
+        out.push(high)?;
+        if out.len() < ROOM {
+            out.push(low)?;
+        }
     }
-    true
+    Ok(())
 }
 
-// Puts a byte at a place, if it has room there, and answers the next place.
-fn push(out: &mut [u8], at: usize, b: u8) -> usize {
-    if out.len() <= at {
-        return at;
-    }
-    out[at] = b;
-    at + 1
-}
-
-// Has the two bytes before a place so many times in all, and answers the next place.
-fn repeat(out: &mut [u8], from: usize, times: u64) -> usize {
-    if from < 2 {
-        return from;
-    }
-    if out.len() < from {
-        return from;
-    }
-    let high = out[from - 2];
-    let low = out[from - 1];
-    let mut at = from;
-    let mut left = times;
-    while 1 < left {
-        at = push(out, at, high);
-        at = push(out, at, low);
-        left -= 1;
-    }
-    at
-}
-
-// Copies a line with its bytes spelled out: 61*3 becomes 616161, and each _ goes. Answers how many bytes that takes. What finds no room is left out.
-pub(crate) fn spelled(line: &[u8], out: &mut [u8]) -> usize {
-    let mut at: usize = 0;
-    let mut i: usize = 0;
-    while i < line.len() {
-        let b = line[i];
-        i += 1;
-        match b {
-            b'*' => {
-                let end = number_end(line, i);
-                at = repeat(out, at, words::decimal(words::part(line, i, end)));
-                i = end;
+// A line with its bytes spelled out: 61*3 becomes 616161, and each _ goes. What finds no room is left out.
+pub(crate) fn spelled(alloc: Global, line: &[u8]) -> Result<Vec<u8>, AllocError> {
+    let mut out = Vec::new(alloc);
+    for (i, part) in line.split(|b| *b == b'*').enumerate() {
+        let digits = if i == 0 {
+            0
+        } else {
+            part.iter().take_while(|b| b.is_ascii_digit()).count()
+        };
+        let (times, plain) = part.split_at(digits);
+        if 0 < i {
+            repeat(&mut out, words::decimal(times))?;
+        }
+        for b in plain {
+            if *b != b'_' && out.len() < ROOM {
+                out.push(*b)?;
             }
-            b'_' => {}
-            _ => at = push(out, at, b),
         }
     }
-    at
+    Ok(out)
 }

@@ -3,7 +3,7 @@
 use mathlib.Core.Path.{◌≡◌, refl, sym, ◌∙◌, ap, subst, fun_ext}
 use mathlib.Core.Bool.{Bool, true, false, cond}
 use mathlib.Core.List.{List, [], ◌∷◌}
-use mathlib.Core.Option.{Option, none, some}
+use Rattle.std.specs.Prelude.{Option, None, Some}
 use Prim.Native.Nat.{ℕ, zero, suc, ◌+◌, ◌-◌, ◌≤◌, ◌<◌}
 use native.Mathlib.Omega.{arith}
 use native.Mathlib.Decide.{dec_le, ℕ_discrete}
@@ -214,7 +214,7 @@ module _ (n : ℕ) (s : List ℕ) (ch : ℕ) (low : ch < n) (cov : Covers n s) (
     says_at k = elim (dec_le 1 (count k list)) [
       | yes y ↦
           let l : k < n = mk.low ch k y in
-          let r : ties_says n s k ≡ some (tie_of ch (field s k 4)) = says_some n s k l ch (field s k 4) (mk.mark ch k y) refl in
+          let r : ties_says n s k ≡ Some (tie_of ch (field s k 4)) = says_some n s k l ch (field s k 4) (mk.mark ch k y) refl in
           says_none n s' k l (unmarks.gone k y) ∙ sym (rw (r, eq-eqb ch ch refl))
       | no y ↦
           let u : count k list ≡ 0 = omega arith in
@@ -222,7 +222,7 @@ module _ (n : ℕ) (s : List ℕ) (ch : ℕ) (low : ch < n) (cov : Covers n s) (
           ∙ keep (ties_says n s k) (through ch (ties_says n s k)) refl (omega (arith, i.agree.each ch k))
     ]
       where
-        keep : (v : Option Tie) (b : Bool) → through ch v ≡ b → one (through ch v) ≡ 0 → v ≡ cond (through ch v) none v
+        keep : (v : Option Tie) (b : Bool) → through ch v ≡ b → one (through ch v) ≡ 0 → v ≡ cond (through ch v) None v
         keep v true p z = absurd (omega (arith, ap one p))
         keep v false p z = rw p
 
@@ -286,9 +286,9 @@ module _ (n : ℕ) (s : List ℕ) (ch : ℕ) (low : ch < n) (cov : Covers n s) (
 none_through : (n : ℕ) (s : List ℕ) (ch : ℕ) → Listed n s → n ≤ ch → ties_says n s ≡ dropped ch (ties_says n s)
 none_through n s ch i l = fun_ext (λ k. at k (ties_says n s k) refl)
   where
-    at : (k : ℕ) (o : Option Tie) → ties_says n s k ≡ o → o ≡ cond (through ch o) none o
-    at k none e = refl
-    at k (some t) e = rw (ne_eqb t.outgoing ch (λ z. omega (arith, i.agree.low k t e)))
+    at : (k : ℕ) (o : Option Tie) → ties_says n s k ≡ o → o ≡ cond (through ch o) None o
+    at k None e = refl
+    at k (Some t) e = rw (ne_eqb t.outgoing ch (λ z. omega (arith, i.agree.low k t e)))
 
 module _ (s : List ℕ) (highest outgoing : ℕ) (b : Bool) (t : b ≡ is_place s highest outgoing) where
   pub drops_short : b ≡ false → Drops (suc highest) outgoing s s

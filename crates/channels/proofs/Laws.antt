@@ -2,7 +2,7 @@
 -- Assumes nothing.
 use mathlib.Core.Path.{◌≡◌, ap}
 use mathlib.Core.List.{List, [], ◌∷◌}
-use mathlib.Core.Option.{Option, none, some}
+use Rattle.std.specs.Prelude.{Option, None, Some}
 use Prim.Native.Nat.{ℕ}
 use Rattle.octets.specs.Verdict.{accept}
 use Rattle.channels.specs.Channels.{next_of}
@@ -12,9 +12,9 @@ pub use Rattle.channels.proofs.Sounds.{is_open, taken_low, taken_used, all_numbe
 -- a list that gives a number starts with it
 pub record Starts (l : Option (List ℕ)) (ch : ℕ) : Type 0 where
   pub rest : List ℕ
-  pub list : l ≡ some (ch ∷ rest)
+  pub list : l ≡ Some (ch ∷ rest)
 
 pub next_starts : (l : Option (List ℕ)) (ch : ℕ) → accept ch ≡ next_of l → Starts l ch
-next_starts none ch e = apart (cc)
-next_starts (some []) ch e = apart (cc)
-next_starts (some (k ∷ rest)) ch e = let q : k ≡ ch = cc in record { rest = rest; list = ap (λ x. some (x ∷ rest)) q }
+next_starts None ch e = apart (cc)
+next_starts (Some []) ch e = apart (cc)
+next_starts (Some (k ∷ rest)) ch e = let q : k ≡ ch = cc in record { rest = rest; list = ap (λ x. Some (x ∷ rest)) q }

@@ -38,7 +38,7 @@ pub record Closed (t : OutgoingChannels) : Type 0 where
 module _ (t : OutgoingChannels) where
   -- the head, by whether any number is freed
   abbrev headed : Bool → Bool
-  headed none = cond none (eqb t.head 0) (ltb t.head t.used)
+  headed None = cond None (eqb t.head 0) (ltb t.head t.used)
 
   abbrev limits : Bool
   limits = leb t.freed t.used && (leb t.used (suc t.highest) && headed (eqb t.freed 0))
@@ -111,8 +111,8 @@ module _ (t : OutgoingChannels) (most : ℕ) (e : most ≡ t.highest) where
       used_beyond m = sym (when_opened t o ∙ rw (le-leb t.freed t.used l, lt-leb t.used (suc t.highest) (omega arith)))
 
       module _ (m : t.used ≤ most + 1) where
-        head_by : (none : Bool) → eqb t.freed 0 ≡ none → headed t none ≡ counts_ok t
-        head_by none q = sym (when_opened t o ∙ rw (le-leb t.freed t.used l, le-leb t.used (suc t.highest) (omega arith)) (ap (headed t) q))
+        head_by : (None : Bool) → eqb t.freed 0 ≡ None → headed t None ≡ counts_ok t
+        head_by None q = sym (when_opened t o ∙ rw (le-leb t.freed t.used l, le-leb t.used (suc t.highest) (omega arith)) (ap (headed t) q))
 
         pub head_none : t.freed ≡ 0 → eqb t.head 0 ≡ counts_ok t
         head_none z = head_by true (eq-eqb t.freed 0 z)

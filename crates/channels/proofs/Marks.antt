@@ -3,7 +3,7 @@
 use mathlib.Core.Path.{◌≡◌, refl, sym, ◌∙◌, ap}
 use mathlib.Core.Bool.{Bool, true, false}
 use mathlib.Core.List.{List}
-use mathlib.Core.Option.{Option, none, some}
+use Rattle.std.specs.Prelude.{Option, None, Some}
 use Prim.Native.Nat.{ℕ, ◌+◌, ◌-◌, ◌≤◌, ◌<◌}
 use native.Mathlib.Omega.{arith}
 use native.Mathlib.Decide.{dec_le, ℕ_discrete}
@@ -18,16 +18,16 @@ use Rattle.channels.proofs.Limits.{apart}
 -- ---- what the tables say of one channel
 
 module _ (n : ℕ) (s : List ℕ) (k : ℕ) where
-  pub says_past : n ≤ k → ties_says n s k ≡ none
+  pub says_past : n ≤ k → ties_says n s k ≡ None
   unfolding ties_says
   says_past l = rw (le-ltb k n l)
 
   module _ (l : k < n) where
-    pub says_none : field s k 3 ≡ 0 → ties_says n s k ≡ none
+    pub says_none : field s k 3 ≡ 0 → ties_says n s k ≡ None
     unfolding ties_says
     says_none e = rw (lt-ltb k n l, eq-eqb (field s k 3) 0 e)
 
-    pub says_some : (ch h : ℕ) → field s k 3 ≡ ch + 1 → field s k 4 ≡ h → ties_says n s k ≡ some (tie_of ch h)
+    pub says_some : (ch h : ℕ) → field s k 3 ≡ ch + 1 → field s k 4 ≡ h → ties_says n s k ≡ Some (tie_of ch h)
     unfolding ties_says
     says_some ch h e q = let m : field s k 3 - 1 ≡ ch = omega arith in rw (lt-ltb k n l, ne_eqb (field s k 3) 0 (λ z. omega arith), m, q)
 
@@ -36,7 +36,7 @@ module _ (n : ℕ) (s : List ℕ) (k : ℕ) where
     pub low : k < n
     pub mark : field s k 3 ≡ t.outgoing + 1
 
-  pub told : (t : Tie) → ties_says n s k ≡ some t → Told t
+  pub told : (t : Tie) → ties_says n s k ≡ Some t → Told t
   told t e = elim (dec_le n k) [
     | yes l ↦ let z = says_past l in apart (cc)
     | no l ↦ elim (ℕ_discrete (field s k 3) 0) [
@@ -79,8 +79,8 @@ module _ (n : ℕ) (s : List ℕ) (lists : Lists) where
       same c d false e m = absurd (omega arith)
 
       member : (ch k : ℕ) → 1 ≤ count k (lists ch) → (o : Option Tie) → ties_says n s k ≡ o → (k < n) × (field s k 3 ≡ ch + 1)
-      member ch k m none e = absurd (omega (arith, a.each ch k, ap (λ x. one (through ch x)) e))
-      member ch k m (some t) e =
+      member ch k m None e = absurd (omega (arith, a.each ch k, ap (λ x. one (through ch x)) e))
+      member ch k m (Some t) e =
           let w = told n s k t e in
           let q : t.outgoing ≡ ch = same ch t.outgoing (eqb t.outgoing ch) refl (omega (arith, a.each ch k, ap (λ x. one (through ch x)) e)) in
           (w.low, w.mark ∙ ap (λ x. x + 1) q)

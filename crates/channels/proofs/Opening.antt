@@ -1,16 +1,16 @@
 -- What new counts and those after the peer's Open stand for, with the facts as they come.
 -- Assumes nothing.
-use mathlib.Core.Path.{◌≡◌, refl, sym, ◌∙◌, ap, fun_ext, subst}
+use mathlib.Core.Path.{◌≡◌, refl, sym, ap, fun_ext, subst}
 use mathlib.Core.Bool.{Bool, true, false, cond}
 use mathlib.Core.List.{List}
-use mathlib.Core.Option.{none, some}
+use Rattle.std.specs.Prelude.{None, Some}
 use Prim.Native.Nat.{ℕ, suc, ◌-◌}
 use native.Mathlib.Omega.{arith}
 use borrow.Author.Tests.{le-ltb}
 use Rattle.channels.specs.Places.{Covers}
 use Rattle.channels.specs.Numbers.{nowhere, up_from}
 use Rattle.channels.specs.declared.OutgoingChannels.{OutgoingChannels}
-use Rattle.channels.specs.Channels.{counts, counts_ok, chain, agreed_says, hand_out_says, taken_says, Sound, unopened, resumed_as, opened_to}
+use Rattle.channels.specs.Channels.{counts, counts_ok, chain, agreed_says, hand_out_says, taken_says, Sound, unopened, opened_to}
 use Rattle.channels.proofs.Numbers.{once_fresh}
 use Rattle.channels.proofs.Limits.{apart, opened_within}
 
@@ -23,8 +23,8 @@ none_taken b highest head s = fun_ext (λ k. rw (le-ltb k 0 (omega arith)))
 pub record Fresh (r : OutgoingChannels) : Type 0 where
   pub within : counts_ok r ≡ true
   pub lowest : r.highest ≡ 0
-  pub agreed : agreed_says r ≡ none
-  pub hand_out_is : (s : List ℕ) → hand_out_says r s ≡ none
+  pub agreed : agreed_says r ≡ None
+  pub hand_out_is : (s : List ℕ) → hand_out_says r s ≡ None
   pub taken : (s : List ℕ) → taken_says r s ≡ nowhere
   pub sound : (s : List ℕ) → Covers 1 s → Sound r s
 
@@ -39,15 +39,6 @@ fresh = record {
   sound = λ s c. record { within = refl; covered = c; shared = none_taken false 0 0 s };
 }
 
--- ---- resumed
-
-module _ (kept : OutgoingChannels) (b : Bool) (e : b ≡ counts_ok kept) where
-  pub resumes : b ≡ true → record { fine = true; channels = kept } ≡ resumed_as kept
-  resumes t = let q : counts_ok kept ≡ true = sym e ∙ t in (λ i. record { fine = sym q i; channels = cond (sym q i) kept unopened })
-
-  pub resumes_not : b ≡ false → (t : OutgoingChannels) → t ≡ unopened → record { fine = false; channels = t } ≡ resumed_as kept
-  resumes_not f t n = let q : counts_ok kept ≡ false = sym e ∙ f in (λ i. record { fine = false; channels = n i }) ∙ (λ i. record { fine = sym q i; channels = cond (sym q i) kept unopened })
-
 -- ---- open
 
 module _ (self : OutgoingChannels) (highest : ℕ) where
@@ -61,8 +52,8 @@ module _ (self : OutgoingChannels) (highest : ℕ) where
 pub record Opens (self : OutgoingChannels) (highest : ℕ) (r : OutgoingChannels) : Type 0 where
   pub again : self.opened ≡ true → r ≡ self
   pub highest_is : self.opened ≡ false → r.highest ≡ highest
-  pub agreed : self.opened ≡ false → agreed_says r ≡ some highest
-  pub hand_out_is : self.opened ≡ false → (s : List ℕ) → hand_out_says r s ≡ some (up_from 0 (suc highest))
+  pub agreed : self.opened ≡ false → agreed_says r ≡ Some highest
+  pub hand_out_is : self.opened ≡ false → (s : List ℕ) → hand_out_says r s ≡ Some (up_from 0 (suc highest))
   pub taken : self.opened ≡ false → (s : List ℕ) → taken_says r s ≡ nowhere
   pub within : counts_ok self ≡ true → counts_ok r ≡ true
   pub sound : self.opened ≡ false → (s : List ℕ) → Covers (suc highest) s → Sound r s
@@ -85,7 +76,7 @@ module _ (self : OutgoingChannels) (highest : ℕ) where
     again = λ q. apart (cc);
     highest_is = λ q. refl;
     agreed = λ q. refl;
-    hand_out_is = λ q s. ap (λ n. some (up_from 0 n)) all;
+    hand_out_is = λ q s. ap (λ n. Some (up_from 0 n)) all;
     taken = λ q s. none_taken true highest 0 s;
     within = λ i. fine;
     sound = λ q s c. record { within = fine; covered = c; shared = rw (none_taken true highest 0 s, all) (once_fresh highest) };

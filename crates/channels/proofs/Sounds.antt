@@ -3,7 +3,7 @@
 use mathlib.Core.Path.{◌≡◌, refl, sym, ◌∙◌, ap, subst}
 use mathlib.Core.Bool.{Bool, true, false, cond}
 use mathlib.Core.List.{List, ◌∷◌}
-use mathlib.Core.Option.{none, some}
+use Rattle.std.specs.Prelude.{None, Some}
 use Prim.Native.Nat.{ℕ, suc, ◌+◌, ◌-◌, ◌≤◌, ◌<◌}
 use native.Mathlib.Omega.{arith}
 use native.Mathlib.Decide.{dec_le}
@@ -29,15 +29,15 @@ after_head t s = cond (leb t.freed 1) 0 (field s t.head 0)
 -- ---- which numbers are taken
 
 module _ (t : OutgoingChannels) (s : List ℕ) (k : ℕ) where
-  pub says_taken : (h : ℕ) → k < t.used → field s k 0 ≡ 65536 → field s k 1 ≡ h → taken_says t s k ≡ some h
+  pub says_taken : (h : ℕ) → k < t.used → field s k 0 ≡ 65536 → field s k 1 ≡ h → taken_says t s k ≡ Some h
   unfolding taken_says
   says_taken h l e q = rw (lt-ltb k t.used l, eq-eqb (field s k 0) 65536 e, q)
 
-  pub says_free : k < t.used → (field s k 0 ≡ 65536 → ⊥) → taken_says t s k ≡ none
+  pub says_free : k < t.used → (field s k 0 ≡ 65536 → ⊥) → taken_says t s k ≡ None
   unfolding taken_says
   says_free l e = rw (lt-ltb k t.used l, ne_eqb (field s k 0) 65536 e)
 
-  pub says_past : t.used ≤ k → taken_says t s k ≡ none
+  pub says_past : t.used ≤ k → taken_says t s k ≡ None
   unfolding taken_says
   says_past l = rw (le-ltb k t.used l)
 
@@ -46,14 +46,14 @@ module _ (t : OutgoingChannels) (s : List ℕ) (k : ℕ) where
   says_same t' s' e p q = rw (e, p, q)
 
 module _ (self : OutgoingChannels) (s : List ℕ) where
-  pub list_of : self.opened ≡ true → hand_out_says self s ≡ some (free self s)
+  pub list_of : self.opened ≡ true → hand_out_says self s ≡ Some (free self s)
   unfolding hand_out_says
   list_of o = rw o
 
   module _ (i : Sound self s) where
-    shared_at : (b : Bool) → self.opened ≡ b → Shared (cond b (some self.highest) none) (cond b (some (free self s)) none) (taken_says self s)
+    shared_at : (b : Bool) → self.opened ≡ b → Shared (cond b (Some self.highest) None) (cond b (Some (free self s)) None) (taken_says self s)
     unfolding agreed_says hand_out_says
-    shared_at b o = subst (λ (b : Bool). Shared (cond b (some self.highest) none) (cond b (some (free self s)) none) (taken_says self s)) o i.shared
+    shared_at b o = subst (λ (b : Bool). Shared (cond b (Some self.highest) None) (cond b (Some (free self s)) None) (taken_says self s)) o i.shared
 
     pub once : self.opened ≡ true → EachOnce self.highest (free self s) (taken_says self s)
     once o = shared_at true o
@@ -62,18 +62,18 @@ module _ (self : OutgoingChannels) (s : List ℕ) where
     nothing_taken o = shared_at false o
 
     -- where a number is taken, the peer's Open has come
-    pub is_open : (k h : ℕ) → taken_says self s k ≡ some h → self.opened ≡ true
+    pub is_open : (k h : ℕ) → taken_says self s k ≡ Some h → self.opened ≡ true
     is_open k h e = go self.opened refl
       where
         go : (b : Bool) → self.opened ≡ b → self.opened ≡ true
         go true o = o
-        go false o = let z : taken_says self s k ≡ none = ap (λ f. f k) (nothing_taken o) in apart (cc)
+        go false o = let z : taken_says self s k ≡ None = ap (λ f. f k) (nothing_taken o) in apart (cc)
 
     -- a taken number is at most the agreed channel-max, and was handed out
-    pub taken_low : (k h : ℕ) → taken_says self s k ≡ some h → k ≤ self.highest
+    pub taken_low : (k h : ℕ) → taken_says self s k ≡ Some h → k ≤ self.highest
     taken_low k h e = once_taken self.highest (free self s) (taken_says self s) k h (once (is_open k h e)) e
 
-    pub taken_used : (k h : ℕ) → taken_says self s k ≡ some h → k < self.used
+    pub taken_used : (k h : ℕ) → taken_says self s k ≡ Some h → k < self.used
     taken_used k h e = elim (dec_le self.used k) [
       | yes l ↦ let z = says_past self s k l in apart (cc)
       | no l ↦ omega arith

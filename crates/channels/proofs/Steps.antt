@@ -3,7 +3,7 @@
 use mathlib.Core.Path.{◌≡◌, refl, sym, ◌∙◌, ap, fun_ext}
 use mathlib.Core.Bool.{Bool, true, false, cond}
 use mathlib.Core.List.{List, [], ◌∷◌, ◌++◌}
-use mathlib.Core.Option.{Option, none, some}
+use Rattle.std.specs.Prelude.{Option, None, Some, Ok, Err}
 use Prim.Native.Nat.{ℕ, suc, ◌+◌, ◌-◌, ◌≤◌, ◌<◌}
 use native.Mathlib.Omega.{arith}
 use native.Mathlib.Decide.{dec_le, ℕ_discrete}
@@ -12,13 +12,10 @@ use borrow.Author.Tests.{eq-eqb, ne_eqb, lt-ltb, le-ltb, le-leb, lt-leb}
 use Rattle.channels.specs.Places.{Covers, field}
 use Rattle.channels.specs.Numbers.{MapTo, Map, with, up_from, freed_first, is_taken, count, Shared, taken_below}
 use Rattle.channels.specs.declared.OutgoingChannels.{OutgoingChannels}
-use Rattle.channels.specs.declared.Held.{Held}
-use Rattle.channels.specs.declared.Held.TheVariants.{Handle, Nothing}
-use Rattle.channels.specs.declared.Allocated.TheVariants.{Channel, NotOpened, Full}
+use Rattle.octets.specs.declared.Refusal.TheVariants.{NotOpened, NoChannelLeft}
 use Rattle.channels.specs.declared.Allocation.{Allocation}
 use Rattle.channels.specs.declared.Deallocation.{Deallocation}
-use Rattle.channels.specs.declared.AgreedMax.TheVariants.{Absent, Is}
-use Rattle.channels.specs.Channels.{held_says, agreed_max_says, next_of, counts, counts_ok, chain, agreed_says, hand_out_says, taken_says, Sound, Becomes, Allocates, Frees, Finds}
+use Rattle.channels.specs.Channels.{next_of, counts, counts_ok, chain, agreed_says, hand_out_says, taken_says, Sound, Becomes, Allocates, Frees, Finds}
 use Rattle.channels.proofs.Numbers.{shared_take, shared_give}
 use Rattle.channels.proofs.Counting.{taken_below_lem, taken_not_free}
 use Rattle.channels.proofs.Kept.{covers_kept, ties_same}
@@ -27,17 +24,6 @@ pub use Rattle.channels.proofs.Limits.{apart}
 use Rattle.channels.proofs.Limits.{opened_limits, closed_limits, opened_within, used_low}
 use Rattle.channels.proofs.Chains.{taken_by, freed_before, taken_long, taken_apart, taken_ties, taken_link, taken_handle, freed_long, freed_ties, chain_none, chain_pop, chain_same, count_append, up_pop}
 use Rattle.channels.proofs.Sounds.{next_free, after_head, says_taken, says_free, says_past, says_same, list_of, once, taken_low, all_numbers, follows, head_low, head_alone, head_used, after_used}
-
--- ---- agreed_max
-
-module _ (self : OutgoingChannels) where
-  pub is_agreed : self.opened ≡ true → agreed_max_says (Is self.highest) ≡ agreed_says self
-  unfolding agreed_says
-  is_agreed e = rw e
-
-  pub not_agreed : self.opened ≡ false → agreed_max_says Absent ≡ agreed_says self
-  unfolding agreed_says
-  not_agreed e = rw e
 
 -- ---- what taking and freeing share
 
@@ -74,22 +60,24 @@ becomes self s i t s' a b w c l f p q r = record {
 
 module _ (self : OutgoingChannels) (s : List ℕ) (handle : ℕ) where
   -- every number is taken, or the tables are no longer what they were
-  no_channel : (r : Allocation) → r ≡ record { answer = Full; channels = self } → (Sound self s → hand_out_says self s ≡ some []) → Allocates self s handle r s
+  no_channel : (r : Allocation) → r ≡ record { answer = Err NoChannelLeft; channels = self } → (Sound self s → hand_out_says self s ≡ Some []) → Allocates self s handle r s
   no_channel r e l = rw e (record {
     answers = λ i. sym (ap next_of (l i));
-    keeps = λ i ch rest q. let z : some [] ≡ some (ch ∷ rest) = sym (l i) ∙ q in apart (cc);
+    keeps = λ i ch rest q. let z : Some [] ≡ Some (ch ∷ rest) = sym (l i) ∙ q in apart (cc);
     refused = λ k q. (refl, refl);
+    may = tt;
     within = λ i. i;
     same_highest = refl;
     ties = ties_same self s;
   })
 
-  pub not_opened : self.opened ≡ false → Allocates self s handle (record { answer = NotOpened; channels = self }) s
+  pub not_opened : self.opened ≡ false → Allocates self s handle (record { answer = Err NotOpened; channels = self }) s
   unfolding hand_out_says
   not_opened e = record {
     answers = λ i. rw e;
-    keeps = λ i ch rest q. let z : none ≡ some (ch ∷ rest) = (rw e at q) in apart (cc);
+    keeps = λ i ch rest q. let z : None ≡ Some (ch ∷ rest) = (rw e at q) in apart (cc);
     refused = λ k q. (refl, refl);
+    may = tt;
     within = λ i. i;
     same_highest = refl;
     ties = ties_same self s;
@@ -99,20 +87,21 @@ module _ (self : OutgoingChannels) (s : List ℕ) (handle : ℕ) where
   hands_out :
       (k : ℕ) (rest : List ℕ) (t : OutgoingChannels) → k ≤ self.highest
       → t.opened ≡ self.opened → t.highest ≡ self.highest → (counts_ok self ≡ true → counts_ok t ≡ true)
-      → (Sound self s → hand_out_says self s ≡ some (k ∷ rest))
-      → (Sound self s → hand_out_says t (taken_by s k handle) ≡ some rest)
-      → (Sound self s → taken_says t (taken_by s k handle) ≡ with (taken_says self s) k (some handle))
-      → Allocates self s handle (record { answer = Channel k; channels = t }) (taken_by s k handle)
+      → (Sound self s → hand_out_says self s ≡ Some (k ∷ rest))
+      → (Sound self s → hand_out_says t (taken_by s k handle) ≡ Some rest)
+      → (Sound self s → taken_says t (taken_by s k handle) ≡ with (taken_says self s) k (Some handle))
+      → Allocates self s handle (record { answer = Ok k; channels = t }) (taken_by s k handle)
   hands_out k rest t l a b w leads list map = record {
     answers = λ i. sym (ap next_of (leads i));
     keeps = λ i ch others q.
-        let z : some (k ∷ rest) ≡ some (ch ∷ others) = sym (leads i) ∙ q in
+        let z : Some (k ∷ rest) ≡ Some (ch ∷ others) = sym (leads i) ∙ q in
         let e : k ≡ ch = cc in
         let f : rest ≡ others = cc in
         rw (← e, ← f)
-        (becomes self s i t (taken_by s k handle) a b (w i.within) (covers_kept (suc self.highest) s (taken_by s k handle) (taken_long s k handle) i.covered) (some rest) (
-        with (taken_says self s) k (some handle)) (list i) (map i) (shared_take (agreed_says self) (hand_out_says self s) (taken_says self s) k rest handle (leads i) i.shared));
+        (becomes self s i t (taken_by s k handle) a b (w i.within) (covers_kept (suc self.highest) s (taken_by s k handle) (taken_long s k handle) i.covered) (Some rest) (
+        with (taken_says self s) k (Some handle)) (list i) (map i) (shared_take (agreed_says self) (hand_out_says self s) (taken_says self s) k rest handle (leads i) i.shared));
     refused = λ j q. apart (cc);
+    may = tt;
     within = w;
     same_highest = b;
     ties = taken_ties s k handle self l;
@@ -121,20 +110,20 @@ module _ (self : OutgoingChannels) (s : List ℕ) (handle : ℕ) where
   -- ---- a number that was never handed out
 
   module _ (o : self.opened ≡ true) (z : self.freed ≡ 0) where
-    new_list : hand_out_says self s ≡ some (up_from self.used (suc self.highest - self.used))
-    new_list = list_of self s o ∙ ap (λ l. some (l ++ up_from self.used (suc self.highest - self.used))) (chain_none s self.head self.freed z)
+    new_list : hand_out_says self s ≡ Some (up_from self.used (suc self.highest - self.used))
+    new_list = list_of self s o ∙ ap (λ l. Some (l ++ up_from self.used (suc self.highest - self.used))) (chain_none s self.head self.freed z)
 
     module _ (w : ℕ) (e : w ≡ self.highest) where
-      pub new_full : w < self.used → (r : Allocation) → r ≡ record { answer = Full; channels = self } → Allocates self s handle r s
-      new_full l r q = no_channel r q (λ i. let n : suc self.highest - self.used ≡ 0 = omega arith in new_list ∙ ap (λ x. some (up_from self.used x)) n)
+      pub new_full : w < self.used → (r : Allocation) → r ≡ record { answer = Err NoChannelLeft; channels = self } → Allocates self s handle r s
+      new_full l r q = no_channel r q (λ i. let n : suc self.highest - self.used ≡ 0 = omega arith in new_list ∙ ap (λ x. Some (up_from self.used x)) n)
 
       module _ (l : self.used ≤ w) (b : Bool) (p : b ≡ has_place s self.used) where
-        pub new_short : b ≡ false → (r : Allocation) → r ≡ record { answer = Full; channels = self } → Allocates self s handle r s
+        pub new_short : b ≡ false → (r : Allocation) → r ≡ record { answer = Err NoChannelLeft; channels = self } → Allocates self s handle r s
         new_short f r q = no_channel r q (λ i. absurd (has_false s self.used b p f (omega (arith, i.covered))))
 
         pub new_taken :
             b ≡ true → (s'' : List ℕ) → s'' ≡ taken_by s self.used handle
-            → Allocates self s handle (record { answer = Channel self.used; channels = counts self.opened self.highest (self.used + 1) self.head self.freed }) s''
+            → Allocates self s handle (record { answer = Ok self.used; channels = counts self.opened self.highest (self.used + 1) self.head self.freed }) s''
         new_taken f s'' x = rw x (hands_out self.used rest t' (omega arith) refl refl within (λ i. leads) (λ i. list) (λ i. map))
           where
             c : Covers (suc self.used) s
@@ -154,15 +143,15 @@ module _ (self : OutgoingChannels) (s : List ℕ) (handle : ℕ) where
                 let d = opened_limits self o i in
                 opened_within t' o (record { low_freed = omega (arith, d.low_freed); low_used = omega arith; none_freed = d.none_freed; used_head = λ n. absurd (n z) })
 
-            leads : hand_out_says self s ≡ some (self.used ∷ rest)
-            leads = new_list ∙ ap some (up_pop self.used (suc self.highest - self.used) (λ n. omega arith))
+            leads : hand_out_says self s ≡ Some (self.used ∷ rest)
+            leads = new_list ∙ ap Some (up_pop self.used (suc self.highest - self.used) (λ n. omega arith))
 
-            list : hand_out_says t' s' ≡ some rest
+            list : hand_out_says t' s' ≡ Some rest
             list =
                 let n : suc self.highest - (self.used + 1) ≡ suc self.highest - self.used - 1 = omega arith in
                 list_of t' s' o
-                ∙ ap (λ x. some (x ++ up_from (self.used + 1) (suc self.highest - (self.used + 1)))) (chain_none s' self.head self.freed z)
-                ∙ ap (λ x. some (up_from (self.used + 1) x)) n
+                ∙ ap (λ x. Some (x ++ up_from (self.used + 1) (suc self.highest - (self.used + 1)))) (chain_none s' self.head self.freed z)
+                ∙ ap (λ x. Some (up_from (self.used + 1) x)) n
 
             same_bound : (n : ℕ) → (self.used ≡ n → ⊥) → ltb n (self.used + 1) ≡ ltb n self.used
             same_bound n h = elim (dec_le self.used n) [
@@ -170,29 +159,29 @@ module _ (self : OutgoingChannels) (s : List ℕ) (handle : ℕ) where
               | no m ↦ lt-ltb n (self.used + 1) (omega arith) ∙ sym (lt-ltb n self.used (omega arith))
             ]
 
-            map : taken_says t' s' ≡ with (taken_says self s) self.used (some handle)
+            map : taken_says t' s' ≡ with (taken_says self s) self.used (Some handle)
             map =
-                with_map (taken_says self s) (taken_says t' s') self.used (some handle)
+                with_map (taken_says self s) (taken_says t' s') self.used (Some handle)
                 (says_taken t' s' self.used handle (omega arith) (taken_link s self.used handle c) (taken_handle s self.used handle c))
                 (λ n h. says_same self s n t' s' (same_bound n h) (taken_apart s self.used handle n 0 (omega arith) h) (taken_apart s self.used handle n 1 (omega arith) h))
 
   -- ---- a number that was freed
 
   module _ (o : self.opened ≡ true) (n : self.freed ≡ 0 → ⊥) (w : ℕ) (e : w ≡ self.highest) where
-    pub freed_full : w < self.head → (r : Allocation) → r ≡ record { answer = Full; channels = self } → Allocates self s handle r s
+    pub freed_full : w < self.head → (r : Allocation) → r ≡ record { answer = Err NoChannelLeft; channels = self } → Allocates self s handle r s
     freed_full l r q = no_channel r q (λ i. absurd (omega (arith, head_low self s i o n)))
 
     module _ (l : self.head ≤ w) (b : Bool) (p : b ≡ has_place s self.head) where
-      pub freed_short : b ≡ false → (r : Allocation) → r ≡ record { answer = Full; channels = self } → Allocates self s handle r s
+      pub freed_short : b ≡ false → (r : Allocation) → r ≡ record { answer = Err NoChannelLeft; channels = self } → Allocates self s handle r s
       freed_short f r q = no_channel r q (λ i. absurd (has_false s self.head b p f (omega (arith, i.covered))))
 
       module _ (f : b ≡ true) (next : ℕ) (d : next ≡ after_head self s) where
-        pub freed_astray : self.used ≤ next → (r : Allocation) → r ≡ record { answer = Full; channels = self } → Allocates self s handle r s
+        pub freed_astray : self.used ≤ next → (r : Allocation) → r ≡ record { answer = Err NoChannelLeft; channels = self } → Allocates self s handle r s
         freed_astray m r q = no_channel r q (λ i. absurd (omega (arith, after_used self s i o n)))
 
         pub freed_taken :
             next < self.used → (s'' : List ℕ) → s'' ≡ taken_by s self.head handle
-            → Allocates self s handle (record { answer = Channel self.head; channels = counts self.opened self.highest self.used next (self.freed - 1) }) s''
+            → Allocates self s handle (record { answer = Ok self.head; channels = counts self.opened self.highest self.used next (self.freed - 1) }) s''
         freed_taken m s'' x = rw x (hands_out k rest t' (omega arith) refl refl within leads list map)
           where
             k : ℕ
@@ -223,18 +212,18 @@ module _ (self : OutgoingChannels) (s : List ℕ) (handle : ℕ) where
                   used_head = λ q. m;
                 })
 
-            leads : Sound self s → hand_out_says self s ≡ some (k ∷ rest)
-            leads i = list_of self s o ∙ ap (λ l. some (l ++ new)) (follows self s i o n)
+            leads : Sound self s → hand_out_says self s ≡ Some (k ∷ rest)
+            leads i = list_of self s o ∙ ap (λ l. Some (l ++ new)) (follows self s i o n)
 
-            list : Sound self s → hand_out_says t' s' ≡ some rest
+            list : Sound self s → hand_out_says t' s' ≡ Some rest
             list i =
                 list_of t' s' o
-                ∙ ap (λ x. some (chain s' x (self.freed - 1) ++ new)) d
-                ∙ ap (λ x. some (x ++ new)) (chain_same s s' k (after_head self s) (self.freed - 1) (λ j h. taken_apart s k handle j 0 (omega arith) h) (head_alone self s i o n))
+                ∙ ap (λ x. Some (chain s' x (self.freed - 1) ++ new)) d
+                ∙ ap (λ x. Some (x ++ new)) (chain_same s s' k (after_head self s) (self.freed - 1) (λ j h. taken_apart s k handle j 0 (omega arith) h) (head_alone self s i o n))
 
-            map : Sound self s → taken_says t' s' ≡ with (taken_says self s) k (some handle)
+            map : Sound self s → taken_says t' s' ≡ with (taken_says self s) k (Some handle)
             map i =
-                with_map (taken_says self s) (taken_says t' s') k (some handle)
+                with_map (taken_says self s) (taken_says t' s') k (Some handle)
                 (says_taken t' s' k handle (head_used self s i o n) (taken_link s k handle c) (taken_handle s k handle c))
                 (λ j h. says_same self s j t' s' refl (taken_apart s k handle j 0 (omega arith) h) (taken_apart s k handle j 1 (omega arith) h))
 
@@ -249,18 +238,18 @@ module _ (self : OutgoingChannels) (s : List ℕ) where
 -- ---- handle_at
 
 module _ (self : OutgoingChannels) (s : List ℕ) (channel w : ℕ) (e : w ≡ channel) where
-  pub found_past : self.used ≤ w → Finds self s channel Nothing
+  pub found_past : self.used ≤ w → Finds self s channel None
   found_past l = record { finds = λ i. sym (says_past self s channel (omega arith)); unused = λ m. refl }
 
   -- a number that was handed out has a place
-  pub found_short : w < self.used → (b : Bool) → b ≡ has_place s w → b ≡ false → Finds self s channel Nothing
+  pub found_short : w < self.used → (b : Bool) → b ≡ has_place s w → b ≡ false → Finds self s channel None
   found_short l b p f = record { finds = λ i. absurd (has_false s w b p f (omega (arith, i.covered, used_low self i.within))); unused = λ m. refl }
 
   module _ (l : w < self.used) (x : ℕ) (p : x ≡ field s w 0) where
-    pub found_free : (x ≡ 65536 → ⊥) → Finds self s channel Nothing
+    pub found_free : (x ≡ 65536 → ⊥) → Finds self s channel None
     found_free q = record { finds = λ i. sym (says_free self s channel (omega arith) (λ a. q (p ∙ ap (λ k. field s k 0) e ∙ a))); unused = λ m. refl }
 
-    pub found_taken : x ≡ 65536 → (h : ℕ) → h ≡ field s w 1 → Finds self s channel (Handle h)
+    pub found_taken : x ≡ 65536 → (h : ℕ) → h ≡ field s w 1 → Finds self s channel (Some h)
     found_taken q h d = record {
       finds = λ i. sym (says_taken self s channel h (omega arith) (ap (λ k. field s k 0) (sym e) ∙ sym p ∙ q) (ap (λ k. field s k 1) (sym e) ∙ sym d));
       unused = λ m. absurd (omega arith);
@@ -290,10 +279,10 @@ chain_next self s = elim (ℕ_discrete self.freed 0) [
 
 module _ (self : OutgoingChannels) (s : List ℕ) (channel : ℕ) where
   -- nothing is freed
-  keeps_all : (r : Deallocation) → r ≡ record { answer = Nothing; channels = self } → (Sound self s → none ≡ taken_says self s channel) → Frees self s channel r s
+  keeps_all : (r : Deallocation) → r ≡ record { answer = None; channels = self } → (Sound self s → None ≡ taken_says self s channel) → Frees self s channel r s
   keeps_all r e n = rw e (record {
     answers = n;
-    keeps = λ i h q. let z : none ≡ some h = n i ∙ q in apart (cc);
+    keeps = λ i h q. let z : None ≡ Some h = n i ∙ q in apart (cc);
     refused = λ q. (refl, refl);
     within = λ i. i;
     same_highest = refl;
@@ -301,12 +290,12 @@ module _ (self : OutgoingChannels) (s : List ℕ) (channel : ℕ) where
     ties = λ i. ties_same self s;
   })
 
-  pub freed_none : (a : Held) → Finds self s channel a → a ≡ Nothing → (r : Deallocation) → r ≡ record { answer = Nothing; channels = self } → Frees self s channel r s
-  freed_none a p q r e = keeps_all r e (λ i. sym (ap held_says q) ∙ p.finds i)
+  pub freed_none : (a : Option ℕ) → Finds self s channel a → a ≡ None → (r : Deallocation) → r ≡ record { answer = None; channels = self } → Frees self s channel r s
+  freed_none a p q r e = keeps_all r e (λ i. sym q ∙ p.finds i)
 
-  module _ (a : Held) (p : Finds self s channel a) (h : ℕ) (q : a ≡ Handle h) where
-    taken_is : Sound self s → taken_says self s channel ≡ some h
-    taken_is i = sym (p.finds i) ∙ ap held_says q
+  module _ (a : Option ℕ) (p : Finds self s channel a) (h : ℕ) (q : a ≡ Some h) where
+    taken_is : Sound self s → taken_says self s channel ≡ Some h
+    taken_is i = sym (p.finds i) ∙ q
 
     one_more : Sound self s → self.freed < self.used
     one_more i =
@@ -320,26 +309,26 @@ module _ (self : OutgoingChannels) (s : List ℕ) (channel : ℕ) where
     -- a number that has a handle was handed out
     was_used : channel < self.used
     was_used = elim (dec_le self.used channel) [
-      | yes l ↦ let z = p.unused l in let y : held_says a ≡ some h = ap held_says q in apart (cc)
+      | yes l ↦ let z = p.unused l in apart (cc)
       | no l ↦ omega arith
     ]
 
-    pub freed_over : self.used ≤ self.freed → (r : Deallocation) → r ≡ record { answer = Nothing; channels = self } → Frees self s channel r s
+    pub freed_over : self.used ≤ self.freed → (r : Deallocation) → r ≡ record { answer = None; channels = self } → Frees self s channel r s
     freed_over l r e = keeps_all r e (λ i. absurd (omega (arith, one_more i)))
 
     module _ (l : self.freed < self.used) (w : ℕ) (e : w ≡ channel) (b : Bool) (t : b ≡ has_place s w) where
-      pub freed_uncovered : b ≡ false → (r : Deallocation) → r ≡ record { answer = Nothing; channels = self } → Frees self s channel r s
+      pub freed_uncovered : b ≡ false → (r : Deallocation) → r ≡ record { answer = None; channels = self } → Frees self s channel r s
       freed_uncovered f r d = keeps_all r d (λ i. absurd (has_false s w b t f (omega (arith, i.covered, taken_low self s i channel h (taken_is i)))))
 
       pub freed :
           b ≡ true → self.highest < 65536 → (next : ℕ) → next ≡ next_free self
           → (s'' : List ℕ) → s'' ≡ freed_before s w next
-          → Frees self s channel (record { answer = Handle h; channels = counts self.opened self.highest self.used w (self.freed + 1) }) s''
+          → Frees self s channel (record { answer = Some h; channels = counts self.opened self.highest self.used w (self.freed + 1) }) s''
       freed f m next d s'' x = rw (x, e, d) (record {
         answers = λ i. sym (taken_is i);
         keeps = λ i k x.
             becomes self s i t' s' refl refl (within i.within) (covers_kept (suc self.highest) s s' (freed_long s channel (next_free self)) i.covered) (freed_first channel (hand_out_says self s)) (
-            with (taken_says self s) channel none) (list i) (map i) (shared_give (agreed_says self) (hand_out_says self s) (taken_says self s) channel k x i.shared);
+            with (taken_says self s) channel None) (list i) (map i) (shared_give (agreed_says self) (hand_out_says self s) (taken_says self s) channel k x i.shared);
         refused = λ x. apart (cc);
         within = within;
         same_highest = refl;
@@ -378,9 +367,9 @@ module _ (self : OutgoingChannels) (s : List ℕ) (channel : ℕ) where
           other : (j f : ℕ) → f < 7 → (channel ≡ j → ⊥) → field s' j f ≡ field s j f
           other j f l n = field_apart s channel 0 (next_free self) j f (omega arith) l n
 
-          map : Sound self s → taken_says t' s' ≡ with (taken_says self s) channel none
+          map : Sound self s → taken_says t' s' ≡ with (taken_says self s) channel None
           map i =
-              with_map (taken_says self s) (taken_says t' s') channel none
+              with_map (taken_says self s) (taken_says t' s') channel None
               (says_free t' s' channel was_used (λ x. next_low self s i (opened i.within) m (sym link ∙ x)))
               (λ j n. says_same self s j t' s' refl (other j 0 (omega arith) n) (other j 1 (omega arith) n))
 
@@ -406,7 +395,7 @@ module _ (self : OutgoingChannels) (s : List ℕ) (channel : ℕ) where
           list : Sound self s → hand_out_says t' s' ≡ freed_first channel (hand_out_says self s)
           list i =
               list_of t' s' (opened i.within)
-              ∙ ap (λ x. some (x ++ new)) (chain_is i)
+              ∙ ap (λ x. Some (x ++ new)) (chain_is i)
               ∙ sym (ap (freed_first channel) (list_of self s (opened i.within)))
 
 -- ---- taken_count

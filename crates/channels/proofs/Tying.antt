@@ -3,7 +3,7 @@
 use mathlib.Core.Path.{◌≡◌, refl, sym, ◌∙◌, ap, fun_ext}
 use mathlib.Core.Bool.{Bool, true, false, ◌&&◌}
 use mathlib.Core.List.{List, []}
-use mathlib.Core.Option.{Option, none, some}
+use Rattle.std.specs.Prelude.{Option, None, Some}
 use Prim.Native.Nat.{ℕ, suc, ◌+◌, ◌-◌, ◌≤◌, ◌<◌}
 use native.Mathlib.Omega.{arith}
 use native.Mathlib.Decide.{dec_le, ℕ_discrete}
@@ -13,7 +13,6 @@ use borrow.Author.Tests.{eq-eqb, ne_eqb, le-leb, lt-leb, leb-true}
 use Rattle.channels.specs.Places.{Covers, covers, field, write, put}
 use Rattle.channels.specs.Numbers.{MapTo, with, one}
 use Rattle.channels.specs.Ties.{tie_of, handle_of, through}
-use Rattle.channels.specs.declared.Held.TheVariants.{Handle, Nothing}
 use Rattle.channels.specs.Lists.{ties_says, Listed, TiedAs, Clears, Changes, FindsTied}
 use Rattle.channels.specs.Links.{lead_to, come_from, bypassed, taken_out, unbound, bound, pushed}
 use Rattle.channels.proofs.Kept.{KeepsNumbers, numbers_same, covers_is, covers_true, covers_kept}
@@ -24,7 +23,7 @@ use Rattle.channels.proofs.Marks.{says_past, says_none, says_some, says_same, Ma
 use Rattle.channels.proofs.Links.{lead_first, lead_next, come_one, out_long, out_same, out_numbers, out_mark, out_mark_other, push_long, push_numbers, push_other, push_mark, push_handle}
 use Rattle.channels.proofs.Agreeing.{fewer, out_agrees, longer, push_agrees}
 
--- what wide answers
+-- a channel number as one of 32 bits
 abbrev pub Wide : ℕ → ℕ → Type 0
 Wide w k = (w ≡ k) × (w < 65536)
 
@@ -122,13 +121,13 @@ module _ (n : ℕ) (s : List ℕ) (k : ℕ) where
     unbound_mark c = unbound_either (λ t. field t k 3 ≡ 0) (λ e. e) (λ ch e. out_mark n s k ch c low)
 
     -- k has no tie, and the lists agree
-    unbound_tied : Listed n s → TiedAs n (with (ties_says n s) k none) (unbound n s k)
+    unbound_tied : Listed n s → TiedAs n (with (ties_says n s) k None) (unbound n s k)
     unbound_tied i =
-        unbound_either (TiedAs n (with (ties_says n s) k none))
-        (λ e. record { says = with_map (ties_says n s) (ties_says n s) k none (says_none n s k low e) (λ m q. refl); listed = i })
+        unbound_either (TiedAs n (with (ties_says n s) k None))
+        (λ e. record { says = with_map (ties_says n s) (ties_says n s) k None (says_none n s k low e) (λ m q. refl); listed = i })
         (λ ch e. record {
           says =
-              with_map (ties_says n s) (ties_says n (taken_out n s k ch)) k none
+              with_map (ties_says n s) (ties_says n (taken_out n s k ch)) k None
               (says_none n (taken_out n s k ch) k low (out_mark n s k ch i.covered low))
               (λ j d. says_same n s (taken_out n s k ch) j (out_mark_other n s k ch j d) (out_same n s k ch j 4 (omega arith) (λ y. omega arith) (λ y. omega arith) (λ y. omega arith) (λ y. omega arith)));
           listed = record {
@@ -145,10 +144,10 @@ module _ (n : ℕ) (s : List ℕ) (k : ℕ) where
 -- a channel that is not tied gets a tie, and the lists agree
 pushed_tied :
     (n : ℕ) (s : List ℕ) (k ch h : ℕ) → k < n → ch < n → field s k 3 ≡ 0 → Listed n s
-    → TiedAs n (with (ties_says n s) k (some (tie_of ch h))) (pushed n s k ch h)
+    → TiedAs n (with (ties_says n s) k (Some (tie_of ch h))) (pushed n s k ch h)
 pushed_tied n s k ch h low c e i = record {
   says =
-      with_map (ties_says n s) (ties_says n (pushed n s k ch h)) k (some (tie_of ch h))
+      with_map (ties_says n s) (ties_says n (pushed n s k ch h)) k (Some (tie_of ch h))
       (says_some n (pushed n s k ch h) k low ch h (push_mark n s k ch h i.covered low) (push_handle n s k ch h i.covered low))
       (λ j d. says_same n s (pushed n s k ch h) j (push_other n s k ch h j 3 (omega arith) (omega arith) d) (push_other n s k ch h j 4 (omega arith) (omega arith) d));
   listed = record {
@@ -182,22 +181,22 @@ module _ (s : List ℕ) (highest channel : ℕ) (b : Bool) (t : b ≡ is_place s
     still_covered a p = omega (arith, top_covered, ap length p, (unbound_numbers (suc top) s w (omega (arith, top_over))).long)
 
 module _ (s : List ℕ) (highest channel outgoing handle : ℕ) where
-  pub tied_over : highest < outgoing → Changes (suc highest) channel (some (tie_of outgoing handle)) s s
+  pub tied_over : highest < outgoing → Changes (suc highest) channel (Some (tie_of outgoing handle)) s s
   tied_over l = record { changes = λ a c i. absurd (omega arith); numbers = numbers_same (suc highest) s }
 
-  pub tied_short : (b : Bool) → b ≡ is_place s highest channel → b ≡ false → Changes (suc highest) channel (some (tie_of outgoing handle)) s s
+  pub tied_short : (b : Bool) → b ≡ is_place s highest channel → b ≡ false → Changes (suc highest) channel (Some (tie_of outgoing handle)) s s
   tied_short b t f = record { changes = λ a c i. no_place s highest channel b t f a i.covered; numbers = numbers_same (suc highest) s }
 
   pub tied :
       outgoing ≤ highest → (b : Bool) → b ≡ is_place s highest channel → b ≡ true
       → (top w v : ℕ) → Wide top highest → Wide w channel → Wide v outgoing
-      → (a s' : List ℕ) → a ≡ unbound (suc top) s w → s' ≡ pushed (suc top) a w v handle → Changes (suc highest) channel (some (tie_of outgoing handle)) s s'
+      → (a s' : List ℕ) → a ≡ unbound (suc top) s w → s' ≡ pushed (suc top) a w v handle → Changes (suc highest) channel (Some (tie_of outgoing handle)) s s'
   tied l b t f top w v e x y a s' p q = rw (q, p, e.0, x.0, y.0) (record {
     changes = λ c d i.
         let u = unbound_tied n s channel low i in
         let r = pushed_tied n first channel outgoing handle low (omega arith) (unbound_mark n s channel low i.covered) u.listed in
         record {
-          says = r.says ∙ ap (λ g. with g channel (some (tie_of outgoing handle))) u.says ∙ with_twice (ties_says n s) channel none (some (tie_of outgoing handle));
+          says = r.says ∙ ap (λ g. with g channel (Some (tie_of outgoing handle))) u.says ∙ with_twice (ties_says n s) channel None (Some (tie_of outgoing handle));
           listed = r.listed;
         };
     numbers = record {
@@ -223,10 +222,10 @@ module _ (s : List ℕ) (highest channel outgoing handle : ℕ) where
       then = push_numbers n first channel outgoing handle low (omega arith)
 
 module _ (s : List ℕ) (highest channel : ℕ) (b : Bool) (t : b ≡ is_place s highest channel) where
-  pub untied_short : b ≡ false → Changes (suc highest) channel none s s
+  pub untied_short : b ≡ false → Changes (suc highest) channel None s s
   untied_short f = record { changes = λ a c i. no_place s highest channel b t f a i.covered; numbers = numbers_same (suc highest) s }
 
-  pub untied : b ≡ true → (top w : ℕ) → Wide top highest → Wide w channel → (s' : List ℕ) → s' ≡ unbound (suc top) s w → Changes (suc highest) channel none s s'
+  pub untied : b ≡ true → (top w : ℕ) → Wide top highest → Wide w channel → (s' : List ℕ) → s' ≡ unbound (suc top) s w → Changes (suc highest) channel None s s'
   untied f top w e x s' p = rw (p, e.0, x.0) (record {
     changes = λ a c i. unbound_tied (suc highest) s channel a i;
     numbers = unbound_numbers (suc highest) s channel (omega (arith, place_low s highest channel b t f));
@@ -235,18 +234,18 @@ module _ (s : List ℕ) (highest channel : ℕ) (b : Bool) (t : b ≡ is_place s
 -- ---- get
 
 module _ (highest : ℕ) (s : List ℕ) (channel : ℕ) where
-  pub found_above : (w : ℕ) → Wide w channel → (top : ℕ) → Wide top highest → top < w → FindsTied (suc highest) s channel Nothing
+  pub found_above : (w : ℕ) → Wide w channel → (top : ℕ) → Wide top highest → top < w → FindsTied (suc highest) s channel None
   found_above w e top u l = λ c. sym (ap handle_of (says_past (suc highest) s channel (omega arith)))
 
   module _ (w : ℕ) (e : Wide w channel) (top : ℕ) (u : Wide top highest) (l : w ≤ top) where
-    pub found_short : (b : Bool) → b ≡ has_place s w → b ≡ false → FindsTied (suc highest) s channel Nothing
+    pub found_short : (b : Bool) → b ≡ has_place s w → b ≡ false → FindsTied (suc highest) s channel None
     found_short b t f = λ c. absurd (has_false s w b t f (omega (arith, e.0)))
 
     module _ (x : ℕ) (p : x ≡ field s w 3) where
-      pub found_none : x ≡ 0 → FindsTied (suc highest) s channel Nothing
+      pub found_none : x ≡ 0 → FindsTied (suc highest) s channel None
       found_none z = λ c. sym (ap handle_of (says_none (suc highest) s channel (omega arith) (ap (λ k. field s k 3) (sym e.0) ∙ sym p ∙ z)))
 
-      pub found : (x ≡ 0 → ⊥) → (h : ℕ) → h ≡ field s w 4 → FindsTied (suc highest) s channel (Handle h)
+      pub found : (x ≡ 0 → ⊥) → (h : ℕ) → h ≡ field s w 4 → FindsTied (suc highest) s channel (Some h)
       found z h q = λ c.
           let m : field s channel 3 ≡ x - 1 + 1 = omega (arith, ap (λ k. field s k 3) e.0) in
           sym (ap handle_of (says_some (suc highest) s channel (omega arith) (x - 1) h m (ap (λ k. field s k 4) (sym e.0) ∙ sym q)))
@@ -306,7 +305,7 @@ cleared_all n s s' k l i = record {
   numbers = i.numbers;
 }
   where
-    none_tied : (j : ℕ) → ties_says n s' j ≡ none
+    none_tied : (j : ℕ) → ties_says n s' j ≡ None
     none_tied j = elim (dec_le n j) [
       | yes m ↦ says_past n s' j m
       | no m ↦ says_none n s' j (omega arith) (i.cleared j (omega arith)).1

@@ -1,11 +1,16 @@
 -- What is read of a slice after a number was stored in it.
 -- Assumes nothing.
-use mathlib.Core.Path.{◌≡◌, ◌∙◌}
-use mathlib.Core.List.{List}
-use Prim.Native.Nat.{ℕ, ◌+◌, ◌*◌, ◌/◌, ◌%◌, ◌≤◌, ◌<◌}
+use mathlib.Core.Path.{◌≡◌, sym, ◌∙◌}
+use mathlib.Core.List.{List, [], ◌∷◌}
+use Prim.Native.Nat.{ℕ, suc, ◌+◌, ◌*◌, ◌-◌, ◌/◌, ◌%◌, ◌≤◌, ◌<◌}
 use native.Mathlib.Omega.{arith}
 use lib.ListN.{length, get_or, set, drop, length-set}
-use lib.Seq.{get_or-set_same, get_or-set_other, drop-set-lt}
+use lib.Seq.{get_or-set_same, get_or-set_other, drop-set-lt, sets-eq}
+use borrow.Rule.Slice.PartMut.{put_mid}
+use borrow.Author.Rules.{rules}
+use Rattle.std.proofs.lemmas.Slice.{overwrites}
+use Rattle.octets.specs.Octets.{put}
+use Rattle.octets.proofs.Laws.{put_fits}
 use Rattle.channels.specs.Places.{word, store}
 
 -- four elements from `at` on become these
@@ -43,6 +48,30 @@ module _ (s : List ℕ) (at a b c d : ℕ) where
     four_3 =
         get_or-set_same (set (set (set s at a) (at + 1) b) (at + 2) c) (at + 3) d 0
         (omega (arith, length-set s at a, length-set (set s at a) (at + 1) b, length-set (set (set s at a) (at + 1) b) (at + 2) c))
+
+-- what is copied into the part of its length is put there
+copied : (d src : List ℕ) (at : ℕ) → at ≤ length d → length src ≤ length d - at → put_mid at (at + length src - at) d src ≡ put d at src
+copied d src at past h =
+    let n : at + length src - at ≡ length src = omega arith in
+    rw (n, put_fits d at src (omega arith)) (search (rules, overwrites))
+
+-- four bytes that are copied into a slice
+put_four : (s : List ℕ) (at a b c d : ℕ) → at + 4 ≤ length s → put_mid at (at + 4 - at) s (a ∷ b ∷ c ∷ d ∷ []) ≡ four s at a b c d
+put_four s at a b c d h =
+    let p : at + 1 ≡ suc at = omega arith in
+    let q : at + 2 ≡ suc (suc at) = omega arith in
+    let r : at + 3 ≡ suc (suc (suc at)) = omega arith in
+    copied s (a ∷ b ∷ c ∷ d ∷ []) at (omega arith) (omega arith)
+    ∙ put_fits s at (a ∷ b ∷ c ∷ d ∷ []) h
+    ∙ sym (sets-eq (a ∷ b ∷ c ∷ d ∷ []) s at h)
+    ∙ rw (p, q, r)
+
+pub stored : (s : List ℕ) (i x : ℕ) (ys : List ℕ) → 4 * i + 4 ≤ length s → x < 4294967296
+    → ys ≡ x / 16777216 % 256 ∷ x / 65536 % 256 ∷ x / 256 % 256 ∷ x % 256 ∷ [] → put_mid (4 * i) (4 * i + 4 - 4 * i) s ys ≡ store s i x
+unfolding store
+stored s i x ys h l e =
+    let z : x / 16777216 % 256 ≡ x / 16777216 = omega arith in
+    rw (e, z) (put_four s (4 * i) (x / 16777216) (x / 65536 % 256) (x / 256 % 256) (x % 256) h)
 
 pub length_store : (s : List ℕ) (i x : ℕ) → length (store s i x) ≡ length s
 unfolding store

@@ -1,17 +1,14 @@
 -- The ties of a connection in the lent tables, and beside them for each outgoing channel the list of the incoming channels that are tied through it:
 -- what the tables stand for, when the two agree, and what each call promises.
 -- Assumes nothing: these are definitions.
-use Rattle.std.specs.Prelude.{◌≡◌, cond, List, [], ◌∷◌, ℕ, suc, ◌-◌, ◌<◌, ltb, eqb}
-use Rattle.std.proofs.Math.Option.{Option, none, some}
+use Rattle.std.specs.Prelude.{◌≡◌, cond, List, [], ◌∷◌, ℕ, suc, ◌-◌, ◌<◌, ltb, eqb, Option, None, Some}
 use Rattle.channels.specs.Places.{Covers, field, Keeps}
 use Rattle.channels.specs.Numbers.{nowhere, with, one, count}
 use Rattle.channels.specs.Ties.{Tie, tie_of, Ties, handle_of, through, dropped}
-use Rattle.channels.specs.declared.Held.{Held}
-use Rattle.channels.specs.Channels.{held_says}
 
 -- what the first n incoming channels are tied to; there are no others
 unfoldable pub ties_says : ℕ → List ℕ → Ties
-ties_says n s k = cond (ltb k n) (cond (eqb (field s k 3) 0) none (some (tie_of (field s k 3 - 1) (field s k 4)))) none
+ties_says n s k = cond (ltb k n) (cond (eqb (field s k 3) 0) None (Some (tie_of (field s k 3 - 1) (field s k 4)))) None
 
 -- ---- the lists
 
@@ -28,7 +25,7 @@ Linked s p e (k ∷ l) = (e ≡ suc k) × (field s k 6 ≡ p) × Linked s (suc k
 pub record Agree (n : ℕ) (s : List ℕ) (lists : Lists) : Type 0 where
   pub linked : (ch : ℕ) → ch < n → Linked s 0 (field s ch 2) (lists ch)
   pub each : (ch k : ℕ) → count k (lists ch) ≡ one (through ch (ties_says n s k))
-  pub low : (k : ℕ) (t : Tie) → ties_says n s k ≡ some t → t.outgoing < n
+  pub low : (k : ℕ) (t : Tie) → ties_says n s k ≡ Some t → t.outgoing < n
 
 -- tables with a place for each of n channels, and lists that agree with their ties
 pub record Listed (n : ℕ) (s : List ℕ) : Type 0 where
@@ -49,8 +46,8 @@ pub record Clears (n : ℕ) (s s' : List ℕ) : Type 0 where
   pub numbers : Keeps 0 2 n s s'
 
 abbrev pub LowTie : ℕ → Option Tie → Type 0
-LowTie n none = Unit {0}
-LowTie n (some t) = t.outgoing < n
+LowTie n None = Unit {0}
+LowTie n (Some t) = t.outgoing < n
 
 -- a channel gets this tie, or none
 pub record Changes (n k : ℕ) (v : Option Tie) (s s' : List ℕ) : Type 0 where
@@ -63,5 +60,5 @@ pub record Drops (n ch : ℕ) (s s' : List ℕ) : Type 0 where
   pub numbers : Keeps 0 2 n s s'
 
 -- the handle that a channel is tied to, where there is a place for each of n channels
-abbrev pub FindsTied : ℕ → List ℕ → ℕ → Held → Type 0
-FindsTied n s k r = Covers n s → held_says r ≡ handle_of (ties_says n s k)
+abbrev pub FindsTied : ℕ → List ℕ → ℕ → Option ℕ → Type 0
+FindsTied n s k r = Covers n s → r ≡ handle_of (ties_says n s k)

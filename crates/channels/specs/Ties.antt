@@ -1,7 +1,6 @@
 -- Ties (document 02, wish 7): what an incoming channel is tied to, and which ties are left once an outgoing channel is freed.
 -- Assumes nothing: these are definitions.
-use Rattle.std.specs.Prelude.{Bool, false, cond, ℕ, eqb}
-use Rattle.std.proofs.Math.Option.{Option, none, some}
+use Rattle.std.specs.Prelude.{Bool, false, cond, ℕ, eqb, Option, None, Some}
 use Rattle.channels.specs.Numbers.{MapTo}
 
 -- the outgoing channel through which the tie was made, and the handle that held it
@@ -17,13 +16,13 @@ abbrev pub Ties : Type 0
 Ties = MapTo Tie
 
 abbrev pub handle_of : Option Tie → Option ℕ
-handle_of none = none
-handle_of (some t) = some t.handle
+handle_of None = None
+handle_of (Some t) = Some t.handle
 
 abbrev pub through : ℕ → Option Tie → Bool
-through ch none = false
-through ch (some t) = eqb t.outgoing ch
+through ch None = false
+through ch (Some t) = eqb t.outgoing ch
 
 -- the ties that are left: all but those that were made through a channel
 abbrev pub dropped : ℕ → Ties → Ties
-dropped ch ties n = cond (through ch (ties n)) none (ties n)
+dropped ch ties n = cond (through ch (ties n)) None (ties n)

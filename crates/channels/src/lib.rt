@@ -6,9 +6,11 @@
 pub mod places;
 pub mod ties;
 
-ghost use Rattle.std.specs.Prelude.{◌≡◌, true, cond, suc, ◌-◌, leb, eqb};
+ghost use Rattle.std.specs.Prelude.{◌≡◌, true, cond, None, suc, ◌-◌, leb, eqb, Err};
 ghost use Rattle.channels.specs.Places.{Covers, field, write};
-ghost use Rattle.channels.specs.Channels.{counts, counts_ok, agreed_max_says, agreed_says, unopened, resumed_as, opened_to, Allocates, Frees, Finds};
+ghost use Rattle.channels.specs.Channels.{counts, counts_ok, agreed_says, unopened, resumed_as, opened_to, Allocates, Frees, Finds};
+
+use octets::Refusal;
 
 // The fields of an outgoing number: its link and its handle.
 const LINK: usize = 0;
@@ -29,52 +31,18 @@ pub struct OutgoingChannels {
     freed: u32,
 }
 
-// Counts that were kept. Where `fine` is false, they are beyond their limits, and those of a new connection stand in their place.
-#[derive(Clone, Copy)]
-pub struct Resumed {
-    pub fine: bool,
-    pub channels: OutgoingChannels,
-}
-
-// What a number has.
-#[derive(Clone, Copy)]
-pub enum Held {
-    Handle(u32),
-    Nothing,
-}
-
-// What allocating answers: a number, that the peer's Open has not come, or that every number is taken.
-#[derive(Clone, Copy)]
-pub enum Allocated {
-    Channel(u16),
-    NotOpened,
-    Full,
-}
-
+// What allocating answers: a number, or that the peer's Open has not come, or that every number is taken.
 #[derive(Clone, Copy)]
 pub struct Allocation {
-    pub answer: Allocated,
+    pub answer: Result<u16, Refusal>,
     pub channels: OutgoingChannels,
 }
 
 // What deallocating answers: the handle that the number had, or nothing where it was not taken.
 #[derive(Clone, Copy)]
 pub struct Deallocation {
-    pub answer: Held,
+    pub answer: Option<u32>,
     pub channels: OutgoingChannels,
-}
-
-// A channel-max that was agreed, or that none was: there is none before the peer's Open.
-#[derive(Clone, Copy)]
-pub enum AgreedMax {
-    Absent,
-    Is(u16),
-}
-
-fn wide(k: u16) -> u32
-    ensures { result ≡ k }
-{
-    k as u32
 }
 
 // The number is taken by the handle.
@@ -101,7 +69,13 @@ impl OutgoingChannels {
     }
 
     // Counts that were kept, if they are within their limits.
-    pub fn resumed(opened: bool, highest: u16, used: u32, head: u32, freed: u32) -> Resumed
+    pub fn resumed(
+        opened: bool,
+        highest: u16,
+        used: u32,
+        head: u32,
+        freed: u32,
+    ) -> Option<OutgoingChannels>
         ensures { result ≡ resumed_as (counts opened highest used head freed) }
     {
         let channels = OutgoingChannels {
@@ -111,23 +85,14 @@ impl OutgoingChannels {
             head,
             freed,
         };
-        if channels.is_within() {
-            return Resumed {
-                fine: true,
-                channels,
-            };
-        }
-        Resumed {
-            fine: false,
-            channels: OutgoingChannels::new(),
-        }
+        channels.is_within().then_some(channels)
     }
 
     // Whether the counts are within their limits: the head was handed out before, or is 0; and before the peer's Open all are 0.
     fn is_within(self) -> bool
         ensures { result ≡ counts_ok self }
     {
-        let most = wide(self.highest);
+        let most = u32::from(self.highest);
         if self.opened {
             if self.used < self.freed {
                 return false;
@@ -209,7 +174,7 @@ impl OutgoingChannels {
     {
         if !self.opened {
             return Allocation {
-                answer: Allocated::NotOpened,
+                answer: Err(Refusal::NotOpened),
                 channels: self,
             };
         }
@@ -220,10 +185,10 @@ impl OutgoingChannels {
     }
 
     fn full(self) -> Allocation
-        ensures { result ≡ record { answer = Allocated.Full; channels = self } }
+        ensures { result ≡ record { answer = Err Refusal.NoChannelLeft; channels = self } }
     {
         Allocation {
-            answer: Allocated::Full,
+            answer: Err(Refusal::NoChannelLeft),
             channels: self,
         }
     }
@@ -234,7 +199,7 @@ impl OutgoingChannels {
         ensures { Allocates self t.old handle result t.new }
     {
         let k = self.used;
-        if wide(self.highest) < k {
+        if u32::from(self.highest) < k {
             return self.full();
         }
         if !places::has(t, k) {
@@ -243,7 +208,7 @@ impl OutgoingChannels {
         take(t, k, handle);
         self.used = k + 1;
         Allocation {
-            answer: Allocated::Channel(k as u16),
+            answer: Ok(k as u16),
             channels: self,
         }
     }
@@ -254,7 +219,7 @@ impl OutgoingChannels {
         ensures { Allocates self t.old handle result t.new }
     {
         let k = self.head;
-        if wide(self.highest) < k {
+        if u32::from(self.highest) < k {
             return self.full();
         }
         if !places::has(t, k) {
@@ -268,7 +233,7 @@ impl OutgoingChannels {
         self.head = next;
         self.freed = self.freed - 1;
         Allocation {
-            answer: Allocated::Channel(k as u16),
+            answer: Ok(k as u16),
             channels: self,
         }
     }
@@ -288,14 +253,14 @@ impl OutgoingChannels {
     pub fn deallocate(mut self, t: &mut [u8], channel: u16) -> Deallocation
         ensures { Frees self t.old channel result t.new }
     {
-        let Held::Handle(handle) = self.handle_at(t, channel) else {
+        let Some(handle) = self.handle_at(t, channel) else {
             return self.kept();
         };
         let freed = self.freed;
         if self.used <= freed {
             return self.kept();
         }
-        let k = wide(channel);
+        let k = u32::from(channel);
         if !places::has(t, k) {
             return self.kept();
         }
@@ -303,7 +268,7 @@ impl OutgoingChannels {
         self.head = k;
         self.freed = freed + 1;
         Deallocation {
-            answer: Held::Handle(handle),
+            answer: Some(handle),
             channels: self,
         }
     }
@@ -319,39 +284,36 @@ impl OutgoingChannels {
     }
 
     fn kept(self) -> Deallocation
-        ensures { result ≡ record { answer = Held.Nothing; channels = self } }
+        ensures { result ≡ record { answer = None; channels = self } }
     {
         Deallocation {
-            answer: Held::Nothing,
+            answer: None,
             channels: self,
         }
     }
 
     // The handle that a number is taken by, if it is taken.
-    pub fn handle_at(self, t: &[u8], channel: u16) -> Held
+    pub fn handle_at(self, t: &[u8], channel: u16) -> Option<u32>
         ensures { Finds self t.now channel result }
     {
-        let k = wide(channel);
+        let k = u32::from(channel);
         if self.used <= k {
-            return Held::Nothing;
+            return None;
         }
         if !places::has(t, k) {
-            return Held::Nothing;
+            return None;
         }
         if places::field(t, k, LINK) != TAKEN {
-            return Held::Nothing;
+            return None;
         }
-        Held::Handle(places::field(t, k, HANDLE))
+        Some(places::field(t, k, HANDLE))
     }
 
-    // The agreed channel-max.
-    pub fn agreed_max(self) -> AgreedMax
-        ensures { agreed_max_says result ≡ agreed_says self }
+    // The agreed channel-max: there is none before the peer's Open.
+    pub fn agreed_max(self) -> Option<u16>
+        ensures { result ≡ agreed_says self }
     {
-        if self.opened {
-            return AgreedMax::Is(self.highest);
-        }
-        AgreedMax::Absent
+        self.opened.then_some(self.highest)
     }
 
     // How many numbers are taken.

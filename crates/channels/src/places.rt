@@ -6,30 +6,13 @@ ghost use Rattle.channels.specs.Places.{Covers, word, store, covers, field, writ
 // How many bytes a place has.
 pub const PLACE_SIZE: usize = 28;
 
-fn wide(b: u8) -> u32
-    ensures { (result ≡ b) × (result < 256) }
-{
-    b as u32
-}
-
-fn narrow(x: u32) -> u8
-    requires { x < 256 }
-    ensures { result ≡ x }
-{
-    x as u8
-}
-
 // The i-th number of 32 bits, the first byte of which counts most.
 fn word(s: &[u8], i: usize) -> u32
     requires { 4 * i + 4 ≤ length s.now }
     ensures { result ≡ word s.now i }
 {
     let at = 4 * i;
-    let a = wide(s[at]);
-    let b = wide(s[at + 1]);
-    let c = wide(s[at + 2]);
-    let d = wide(s[at + 3]);
-    a * 16777216 + b * 65536 + c * 256 + d
+    u32::from_be_bytes([s[at], s[at + 1], s[at + 2], s[at + 3]])
 }
 
 // The i-th number becomes x.
@@ -38,17 +21,14 @@ fn store(s: &mut [u8], i: usize, x: u32)
     ensures { s.new ≡ store s.old i x }
 {
     let at = 4 * i;
-    s[at] = narrow(x / 16777216);
-    s[at + 1] = narrow(x / 65536 % 256);
-    s[at + 2] = narrow(x / 256 % 256);
-    s[at + 3] = narrow(x % 256);
+    s[at..at + 4].copy_from_slice(&x.to_be_bytes());
 }
 
 // Whether the tables have a place for each channel up to the highest.
 pub fn covers(t: &[u8], highest: u16) -> bool
     ensures { result ≡ covers (suc highest) t.now }
 {
-    has(t, highest as u32)
+    has(t, u32::from(highest))
 }
 
 // Whether the tables have a place for number k.

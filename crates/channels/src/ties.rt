@@ -4,13 +4,12 @@
 // A peer picks incoming channels as it likes, so all places are cleared once, when a connection is made. No link is trusted: in tables that their
 // owner altered no place beyond those of the connection is written, and each call ends.
 ghost use Rattle.std.specs.Prelude.{◌≡◌, ◌&&◌, suc, ◌≤◌, ◌<◌, leb};
-ghost use Rattle.std.proofs.Math.Option.{none, some};
 ghost use Rattle.channels.specs.Places.{Covers, covers};
 ghost use Rattle.channels.specs.Ties.{tie_of};
 ghost use Rattle.channels.specs.Lists.{Clears, Changes, Drops, FindsTied};
 ghost use Rattle.channels.specs.Links.{lead_to, come_from, bypassed, taken_out, unbound, bound, pushed, DropsFrom};
 
-use crate::{Held, places};
+use crate::places;
 
 // The field of an outgoing channel: the first incoming one that is tied through it.
 const FIRST: usize = 2;
@@ -25,12 +24,6 @@ const NEXT: usize = 5;
 
 const PREVIOUS: usize = 6;
 
-fn wide(k: u16) -> u32
-    ensures { (result ≡ k) × (result < 65536) }
-{
-    k as u32
-}
-
 // No channel up to the highest is tied.
 pub fn clear(t: &mut [u8], highest: u16)
     ensures { Clears (suc highest) t.old t.new }
@@ -38,30 +31,27 @@ pub fn clear(t: &mut [u8], highest: u16)
     if !places::covers(t, highest) {
         return;
     }
-    let top = wide(highest);
-    let mut k: u32 = 0;
-    while k <= top {
+    for k in 0..=u32::from(highest) {
         places::write(t, k, FIRST, 0);
         places::write(t, k, OUTGOING, 0);
-        k += 1;
     }
 }
 
 // The handle that a channel is tied to, if it is tied. No channel above the highest is.
-pub fn get(t: &[u8], highest: u16, channel: u16) -> Held
+pub fn get(t: &[u8], highest: u16, channel: u16) -> Option<u32>
     ensures { FindsTied (suc highest) t.now channel result }
 {
-    let k = wide(channel);
-    if wide(highest) < k {
-        return Held::Nothing;
+    let k = u32::from(channel);
+    if u32::from(highest) < k {
+        return None;
     }
     if !places::has(t, k) {
-        return Held::Nothing;
+        return None;
     }
     if places::field(t, k, OUTGOING) == 0 {
-        return Held::Nothing;
+        return None;
     }
-    Held::Handle(places::field(t, k, HANDLE))
+    Some(places::field(t, k, HANDLE))
 }
 
 // Whatever leads to a channel of the list, the channel before it or the list itself, leads to `next` instead.
@@ -152,7 +142,7 @@ fn is_place(t: &[u8], highest: u16, channel: u16) -> bool
 
 // The channel is tied through the outgoing one to the handle from now on.
 pub fn tie(t: &mut [u8], highest: u16, channel: u16, outgoing: u16, handle: u32)
-    ensures { Changes (suc highest) channel (some (tie_of outgoing handle)) t.old t.new }
+    ensures { Changes (suc highest) channel (Some (tie_of outgoing handle)) t.old t.new }
 {
     if highest < outgoing {
         return;
@@ -160,20 +150,20 @@ pub fn tie(t: &mut [u8], highest: u16, channel: u16, outgoing: u16, handle: u32)
     if !is_place(t, highest, channel) {
         return;
     }
-    let top = wide(highest);
-    let k = wide(channel);
+    let top = u32::from(highest);
+    let k = u32::from(channel);
     unbind(t, top, k);
-    push(t, top, k, wide(outgoing), handle);
+    push(t, top, k, u32::from(outgoing), handle);
 }
 
 // The channel is not tied from now on.
 pub fn untie(t: &mut [u8], highest: u16, channel: u16)
-    ensures { Changes (suc highest) channel none t.old t.new }
+    ensures { Changes (suc highest) channel None t.old t.new }
 {
     if !is_place(t, highest, channel) {
         return;
     }
-    unbind(t, wide(highest), wide(channel));
+    unbind(t, u32::from(highest), u32::from(channel));
 }
 
 // No channel is tied through the outgoing one from now on.
@@ -183,13 +173,14 @@ pub fn drop_through(t: &mut [u8], highest: u16, outgoing: u16)
     if !is_place(t, highest, outgoing) {
         return;
     }
-    let ch = wide(outgoing);
+    let ch = u32::from(outgoing);
     let first = places::field(t, ch, FIRST);
     places::write(t, ch, FIRST, 0);
-    drop_from(t, wide(highest), ch, first);
+    drop_from(t, u32::from(highest), ch, first);
 }
 
 // Ends the ties of a list, from its first channel on. Each turn ends one that was made through the outgoing channel, so the walk ends in all tables.
+// (A `while`: where a turn goes on stands in the tables, and no range or iterator of the library follows it.)
 fn drop_from(t: &mut [u8], top: u32, outgoing: u32, first: u32)
     requires { Covers (suc top) t.old × (outgoing < 65536) }
     ensures { DropsFrom (suc top) outgoing first t.old t.new }

@@ -3,7 +3,7 @@
 use mathlib.Core.Path.{◌≡◌, refl, ap, ◌∙◌}
 use mathlib.Core.Bool.{true, false}
 use mathlib.Core.List.{List, [], ◌∷◌, ◌++◌, append_assoc}
-use mathlib.Core.Option.{Option, none, some}
+use Rattle.std.specs.Prelude.{Option, None, Some}
 use Prim.Native.Nat.{ℕ, suc, ◌+◌, ◌≤◌}
 use native.Mathlib.Omega.{arith}
 use lib.ListN.{length, get_or, length-append, get_or-eq_default}
@@ -31,15 +31,15 @@ use Rattle.codec.proofs.Frames.{rows_of, read_as_lem, composite_framed}
 
 description_short : (o : Option (List ℕ)) → description_ok o ≡ true → length (description_field o) ≤ 257
 unfolding description_field
-description_short none e = omega arith
-description_short (some d) e =
+description_short None e = omega arith
+description_short (Some d) e =
     let l : length d ≤ 255 = leb-true _ _ (and_was (leb (length d) 255) _ e).0 in
     omega (arith, text_len_short 0xa1 d l)
 
 description_whole : (d : ℕ) (o : Option (List ℕ)) → description_ok o ≡ true → Whole (suc d) (description_field o)
 unfolding description_field
-description_whole d none e = null_whole d
-description_whole d (some b) e =
+description_whole d None e = null_whole d
+description_whole d (Some b) e =
     let l : length b ≤ 255 = leb-true _ _ (and_was (leb (length b) 255) _ e).0 in
     string_whole b d (omega arith)
 
@@ -89,38 +89,38 @@ module _ (e : ErrorText) (ok : error_ok e ≡ true) where
     trimmed_each (Whole (suc d)) (description_field e.description ∷ []) (description_whole d e.description bounds.description_fine, tt),
   )
 
-  error_is : error_field (some e) ≡ composite_of 29 fields
+  error_is : error_field (Some e) ≡ composite_of 29 fields
   unfolding error_field composite
   error_is = ap (composite_of 29) fields_are
 
-  error_whole : Whole 16 (error_field (some e))
+  error_whole : Whole 16 (error_field (Some e))
   error_whole = rw error_is (composite_whole 14 fields (fields_whole 13) (omega (arith, fields_few)) (omega (arith, fields_short)) 29)
 
-  error_fits : fits Error false (error_field (some e)) ≡ true
+  error_fits : fits Error false (error_field (Some e)) ≡ true
   unfolding joined fields
   error_fits =
       rw error_is (fits_present Error false (composite_of 29 fields) (composite_present 29 fields)
       (error_typed fields fields_some (omega (arith, fields_few)) (omega (arith, fields_short)) (symbol_first e.condition (joined rest))))
 
-  error_short : length (error_field (some e)) ≤ 612
+  error_short : length (error_field (Some e)) ≤ 612
   error_short = rw error_is (omega (arith, fields_short, header_few 29 (length fields) (length (joined fields)), length-append (composite_header 29 (length fields) (length (joined fields))) (joined fields)))
 
 -- ---- the field of a Close
 
 close_whole : (o : Option ErrorText) → close_ok o ≡ true → Each (Whole 16) (error_field o ∷ [])
 unfolding error_field
-close_whole none ok = (null_whole 15, tt)
-close_whole (some e) ok = (error_whole e ok, tt)
+close_whole None ok = (null_whole 15, tt)
+close_whole (Some e) ok = (error_whole e ok, tt)
 
 close_fit : (o : Option ErrorText) → close_ok o ≡ true → fit (rows_of 24) (error_field o ∷ []) ≡ true
 unfolding fields_of fields_in fit fits error_field starts_with
-close_fit none ok = refl
-close_fit (some e) ok = rw (error_fits e ok)
+close_fit None ok = refl
+close_fit (Some e) ok = rw (error_fits e ok)
 
 close_short : (o : Option ErrorText) → close_ok o ≡ true → length (error_field o) ≤ 612
 unfolding error_field
-close_short none ok = omega arith
-close_short (some e) ok = error_short e ok
+close_short None ok = omega arith
+close_short (Some e) ok = error_short e ok
 
 module _ (o : Option ErrorText) (ok : close_ok o ≡ true) where
   frame_short : length (frame_bytes 0 (close_body o)) ≤ 1000
@@ -130,7 +130,7 @@ module _ (o : Option ErrorText) (ok : close_ok o ≡ true) where
       let k : length (joined fs) ≤ length (error_field o ++ []) = trimmed_short (error_field o ∷ []) in
       omega (arith, length-append (error_field o) [], close_short o ok, length_frame 0 (close_body o), length-append (composite_header 24 (length fs) (length (joined fs))) (joined fs), header_few 24 (length fs) (length (joined fs)))
 
-  close_accepted : (limit highest : ℕ) (t : List ℕ) → length (frame_bytes 0 (close_body o)) ≤ limit → read_frame limit highest (frame_bytes 0 (close_body o) ++ t) ≡ accept (frame_of 0 (close_body o), some (read_as_lem 24 (trimmed (error_field o ∷ []))))
+  close_accepted : (limit highest : ℕ) (t : List ℕ) → length (frame_bytes 0 (close_body o)) ≤ limit → read_frame limit highest (frame_bytes 0 (close_body o) ++ t) ≡ accept (frame_of 0 (close_body o), Some (read_as_lem 24 (trimmed (error_field o ∷ []))))
   unfolding fields_of fields_in
   close_accepted limit highest t room =
       composite_framed limit highest 0 24 (rows_of 24) (error_field o ∷ []) t (omega arith) (omega arith) (omega (arith, frame_short)) room refl (close_whole o ok) (close_fit o ok) (omega arith)
@@ -149,7 +149,7 @@ unfolding starts_with big_endian big_endian_from
 symbol_at at c s h = let z : 0 + length c ≡ length c = omega arith in rw (symbol_is c h, z)
 
 module _ (e : ErrorText) (ok : error_ok e ≡ true) where
-  only : trimmed (error_field (some e) ∷ []) ≡ composite_of 29 (fields e ok) ∷ []
+  only : trimmed (error_field (Some e) ∷ []) ≡ composite_of 29 (fields e ok) ∷ []
   unfolding trimmed
   only = ap (λ (f : List ℕ). trimmed (f ∷ [])) (error_is e ok) ∙ trimmed_present (composite_of 29 (fields e ok)) [] (composite_present 29 (fields e ok))
 
@@ -163,7 +163,7 @@ module _ (e : ErrorText) (ok : error_ok e ≡ true) where
   front : List ℕ
   front = outer ++ (inner ++ (0xa3 ∷ length e.condition ∷ []))
 
-  body_is : close_body (some e) ≡ front ++ (e.condition ++ (joined (rest e ok) ++ []))
+  body_is : close_body (Some e) ≡ front ++ (e.condition ++ (joined (rest e ok) ++ []))
   unfolding composite front outer inner fields joined
   body_is =
       ap (composite_of 24) only
@@ -180,8 +180,8 @@ module _ (e : ErrorText) (ok : error_ok e ≡ true) where
 
 condition_in : (o : Option ErrorText) → close_ok o ≡ true → ConditionIn (close_body o) o (condition 0 (read_as_lem 24 (trimmed (error_field o ∷ []))))
 unfolding error_field trimmed condition starts_with
-condition_in none ok = refl
-condition_in (some e) ok = (
+condition_in None ok = refl
+condition_in (Some e) ok = (
   length (front e ok),
   ap (λ (fs : List (List ℕ)). condition 0 (read_as_lem 24 fs)) (only e ok) ∙ condition_found e ok,
   rw (body_is e ok, drop-append_seam (front e ok) (e.condition ++ (joined (rest e ok) ++ []))) (take-append_seam e.condition (joined (rest e ok) ++ [])),

@@ -2,7 +2,7 @@
 -- Assumes nothing.
 use mathlib.Core.Path.{◌≡◌, refl}
 use mathlib.Core.List.{List, [], ◌++◌}
-use mathlib.Core.Option.{none}
+use Rattle.std.specs.Prelude.{None}
 use Prim.Native.Nat.{ℕ, ◌≤◌}
 use native.Mathlib.Omega.{arith}
 use lib.ListN.{length}
@@ -13,6 +13,6 @@ use Rattle.frame_encoder.proofs.Laws.{length_frame}
 use Rattle.codec.specs.ReadBack.{frame_of}
 use Rattle.codec.proofs.Frames.{framed_read}
 
-pub empty_read_back : (limit highest : ℕ) (t : List ℕ) → length (frame_bytes 0 []) ≤ limit → read_frame limit highest (frame_bytes 0 [] ++ t) ≡ accept (frame_of 0 [], none)
+pub empty_read_back : (limit highest : ℕ) (t : List ℕ) → length (frame_bytes 0 []) ≤ limit → read_frame limit highest (frame_bytes 0 [] ++ t) ≡ accept (frame_of 0 [], None)
 unfolding content
-empty_read_back limit highest t room = framed_read limit highest 0 [] t (omega arith) (omega arith) (omega (arith, length_frame 0 [])) room none refl
+empty_read_back limit highest t room = framed_read limit highest 0 [] t (omega arith) (omega arith) (omega (arith, length_frame 0 [])) room None refl

@@ -131,8 +131,8 @@ record Read (f : List ℕ) : Type 0 where
   others_few : length others ≤ 2
 
 read_fields : (f : List ℕ) (k : ℕ) (s : List ℕ) (fs : List (List ℕ)) → 1 ≤ k → k ≤ 3 → split 14 k s ≡ accept fs → error_fields f (described f) ≡ split 14 k s → Read f
-read_fields f k s [] some few e q = absurd (omega (arith, (split_all 14 k s [] e).count))
-read_fields f k s (c ∷ fs) some few e q =
+read_fields f k s [] Some few e q = absurd (omega (arith, (split_all 14 k s [] e).count))
+read_fields f k s (c ∷ fs) Some few e q =
     let a = split_all 14 k s (c ∷ fs) e in
     record { condition = c; others = fs; fields = q ∙ e; others_whole = a.whole.1; others_few = omega (arith, a.count) }
 

@@ -3,7 +3,7 @@
 use mathlib.Core.Path.{◌≡◌, refl, sym, ap, ◌∙◌}
 use mathlib.Core.Bool.{true}
 use mathlib.Core.List.{List, [], ◌++◌, append_assoc, append-nil}
-use mathlib.Core.Option.{Option, none, some}
+use Rattle.std.specs.Prelude.{Option, None, Some}
 use Prim.Native.Nat.{ℕ, ◌+◌, ◌-◌, ◌^◌, ◌<◌, ◌≤◌}
 use native.Mathlib.Omega.{arith}
 use lib.ListN.{length, get_or, length-append}
@@ -28,14 +28,14 @@ abbrev pub read_as_lem : ℕ → List (List ℕ) → Performative
 read_as_lem code fs = record { code = code; fields = fs; from = length (composite_header code (length fs) (length (joined fs))); end = length (composite_of code fs) }
 
 abbrev pub given : Option (List Field) → List Field
-given none = []
-given (some rows) = rows
+given None = []
+given (Some rows) = rows
 
 abbrev pub rows_of : ℕ → List Field
 rows_of code = given (fields_of code)
 
 -- any bytes may follow
-pub performative_read_lem : (code : ℕ) (rows : List Field) (fs : List (List ℕ)) → fields_of code ≡ some rows → Each (Whole 16) fs → fit rows fs ≡ true → length fs < 256 → length (joined fs) + 4 < 256 ^ 4 → (t : List ℕ)
+pub performative_read_lem : (code : ℕ) (rows : List Field) (fs : List (List ℕ)) → fields_of code ≡ Some rows → Each (Whole 16) fs → fit rows fs ≡ true → length fs < 256 → length (joined fs) + 4 < 256 ^ 4 → (t : List ℕ)
     → performative (composite_of code fs ++ t) ≡ accept (read_as_lem code fs)
 unfolding performative performative_by fields_by and_then require rows_for
 performative_read_lem code rows fs r each fine few low t =
@@ -74,16 +74,16 @@ module _ (limit highest channel : ℕ) (body t : List ℕ) (low : channel < 256 
 
 -- a frame with one performative
 composite_of_framed : (limit highest channel code : ℕ) (rows : List Field) (fs : List (List ℕ)) (t : List ℕ) → channel < 256 ^ 2 → channel ≤ highest → length (frame_bytes channel (composite_of code fs)) < 256 ^ 4 → length (frame_bytes channel (composite_of code fs)) ≤ limit
-    → fields_of code ≡ some rows → Each (Whole 16) fs → fit rows fs ≡ true → length fs < 256 → read_frame limit highest (frame_bytes channel (composite_of code fs) ++ t) ≡ accept (frame_of channel (composite_of code fs), some (read_as_lem code fs))
+    → fields_of code ≡ Some rows → Each (Whole 16) fs → fit rows fs ≡ true → length fs < 256 → read_frame limit highest (frame_bytes channel (composite_of code fs) ++ t) ≡ accept (frame_of channel (composite_of code fs), Some (read_as_lem code fs))
 unfolding content composite_header and_then
 composite_of_framed limit highest channel code rows fs t low within long room r each fine few =
     let l : length (joined fs) + 4 < 256 ^ 4 = omega (arith, length_frame channel (composite_of code fs), length-append (composite_header code (length fs) (length (joined fs))) (joined fs)) in
     let p : performative (composite_of code fs) ≡ accept (read_as_lem code fs) = ap performative (sym (append-nil (composite_of code fs))) ∙ performative_read_lem code rows fs r each fine few l [] in
-    framed_read limit highest channel (composite_of code fs) t low within long room (some (read_as_lem code fs)) (rw p)
+    framed_read limit highest channel (composite_of code fs) t low within long room (Some (read_as_lem code fs)) (rw p)
 
 -- the same of fields of which the trailing nulls are dropped
 pub composite_framed : (limit highest channel code : ℕ) (rows : List Field) (fs : List (List ℕ)) (t : List ℕ) → channel < 256 ^ 2 → channel ≤ highest → length (frame_bytes channel (composite code fs)) < 256 ^ 4 → length (frame_bytes channel (composite code fs)) ≤ limit
-    → fields_of code ≡ some rows → Each (Whole 16) fs → fit rows fs ≡ true → length fs < 256 → read_frame limit highest (frame_bytes channel (composite code fs) ++ t) ≡ accept (frame_of channel (composite code fs), some (read_as_lem code (trimmed fs)))
+    → fields_of code ≡ Some rows → Each (Whole 16) fs → fit rows fs ≡ true → length fs < 256 → read_frame limit highest (frame_bytes channel (composite code fs) ++ t) ≡ accept (frame_of channel (composite code fs), Some (read_as_lem code (trimmed fs)))
 unfolding composite
 composite_framed limit highest channel code rows fs t low within long room r each fine few =
     let l : length (trimmed fs) < 256 = omega (arith, trimmed_few fs) in

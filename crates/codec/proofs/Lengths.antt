@@ -5,7 +5,7 @@ use mathlib.Core.Path.{◌≡◌, refl, sym, ap, ◌∙◌}
 use mathlib.Core.Bool.{Bool, true, false, cond, not, ◌&&◌, ◌||◌, false≢true}
 use mathlib.Core.Logic.{◌⊎◌, inl, inr}
 use mathlib.Core.List.{List, [], ◌∷◌, ◌++◌, append-nil}
-use mathlib.Core.Option.{some}
+use Rattle.std.specs.Prelude.{Some}
 use Prim.Native.Nat.{ℕ, zero, suc, ◌+◌, ◌*◌, ◌-◌, ◌^◌, ◌<◌, ◌≤◌}
 use native.Mathlib.Omega.{arith}
 use lib.ListN.{length, take, drop, length-append, length-drop}
@@ -337,17 +337,17 @@ all_add : ℕ → List (ℕ × List Field) → Bool
 all_add n [] = true
 all_add n (row ∷ rows) = adds n row.1 && all_add n rows
 
-adds_in : (n : ℕ) (table : List (ℕ × List Field)) (code : ℕ) (rows : List Field) → all_add n table ≡ true → fields_in table code ≡ some rows → adds n rows ≡ true
+adds_in : (n : ℕ) (table : List (ℕ × List Field)) (code : ℕ) (rows : List Field) → all_add n table ≡ true → fields_in table code ≡ Some rows → adds n rows ≡ true
 unfolding all_add fields_in
 adds_in n [] code rows a e = let z : ◌≡◌ {A = ℕ} 0 1 = cc in absurd (omega arith)
 adds_in n (row ∷ table) code rows a e = let h = and_was (adds n row.1) (all_add n table) a in go (eqb code row.0) refl h.0 (adds_in n table code rows h.1)
   where
-    go : (b : Bool) → eqb code row.0 ≡ b → adds n row.1 ≡ true → (fields_in table code ≡ some rows → adds n rows ≡ true) → adds n rows ≡ true
-    go true p g k = let q : row.1 ≡ rows = (let x : some row.1 ≡ some rows = (rw p at e) in cc) in rw q at g
+    go : (b : Bool) → eqb code row.0 ≡ b → adds n row.1 ≡ true → (fields_in table code ≡ Some rows → adds n rows ≡ true) → adds n rows ≡ true
+    go true p g k = let q : row.1 ≡ rows = (let x : Some row.1 ≡ Some rows = (rw p at e) in cc) in rw q at g
     go false p g k = k (rw p at e)
 
 -- no performative has defaults that add more than 10 bytes
-adds_ten : (code : ℕ) (rows : List Field) → fields_of code ≡ some rows → adds 10 rows ≡ true
+adds_ten : (code : ℕ) (rows : List Field) → fields_of code ≡ Some rows → adds 10 rows ≡ true
 unfolding fields_of all_add adds missing extra written_fields written_as trimmed joined uint ushort bytes_of starts_with
 adds_ten code rows e = adds_in 10 performatives code rows refl e
 
@@ -356,7 +356,7 @@ adds_ten code rows e = adds_in 10 performatives code rows refl e
 -- a performative at the front of s: its fields by their rows
 record Read (s : List ℕ) (p : Performative) : Type 0 where
   rows : List Field
-  named : fields_of p.code ≡ some rows
+  named : fields_of p.code ≡ Some rows
   whole : Each (Whole 16) p.fields
   fine : fit rows p.fields ≡ true
   fill : joined p.fields ≡ take (p.end - p.from) (drop p.from s)

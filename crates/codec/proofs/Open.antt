@@ -3,7 +3,7 @@
 use mathlib.Core.Path.{◌≡◌, refl, ap, ◌∙◌}
 use mathlib.Core.Bool.{true, false}
 use mathlib.Core.List.{List, [], ◌++◌}
-use mathlib.Core.Option.{Option, none, some}
+use Rattle.std.specs.Prelude.{Option, None, Some}
 use Prim.Native.Nat.{ℕ, suc, ◌^◌, ◌<◌, ◌≤◌}
 use native.Mathlib.Omega.{arith}
 use lib.ListN.{length, get_or, length-append, get_or-eq_default}
@@ -27,23 +27,23 @@ use Rattle.codec.proofs.Frames.{rows_of, read_as_lem, composite_framed}
 
 idle_whole : (d : ℕ) (o : Option ℕ) → Whole (suc d) (idle_field o)
 unfolding idle_field
-idle_whole d none = null_whole d
-idle_whole d (some n) = uint_whole n d
+idle_whole d None = null_whole d
+idle_whole d (Some n) = uint_whole n d
 
 idle_fits : (o : Option ℕ) → fits UInt false (idle_field o) ≡ true
 unfolding idle_field fits starts_with
-idle_fits none = refl
-idle_fits (some n) = rw (uint_present n) (uint_typed n)
+idle_fits None = refl
+idle_fits (Some n) = rw (uint_present n) (uint_typed n)
 
 idle_short : (o : Option ℕ) → length (idle_field o) ≤ 5
 unfolding idle_field
-idle_short none = omega arith
-idle_short (some n) = uint_short n
+idle_short None = omega arith
+idle_short (Some n) = uint_short n
 
 idle_number_lem : (o : Option ℕ) → millis o < 256 ^ 4 → number_or 0 (idle_field o) ≡ millis o
 unfolding idle_field number_or starts_with
-idle_number_lem none h = refl
-idle_number_lem (some n) h = rw (uint_present n) (uint_number n h)
+idle_number_lem None h = refl
+idle_number_lem (Some n) h = rw (uint_present n) (uint_number n h)
 
 -- ---- the fields
 
@@ -89,7 +89,7 @@ module _ (s : Settings) (ok : settings_ok s.container_id s.max_frame_size s.chan
       )
 
   -- accepted, whatever the idle-time-out
-  pub open_accepted : (limit highest : ℕ) (t : List ℕ) → length (frame_bytes 0 (open_body s)) ≤ limit → read_frame limit highest (frame_bytes 0 (open_body s) ++ t) ≡ accept (frame_of 0 (open_body s), some (read_as_lem 16 (trimmed (open_fields s))))
+  pub open_accepted : (limit highest : ℕ) (t : List ℕ) → length (frame_bytes 0 (open_body s)) ≤ limit → read_frame limit highest (frame_bytes 0 (open_body s) ++ t) ≡ accept (frame_of 0 (open_body s), Some (read_as_lem 16 (trimmed (open_fields s))))
   unfolding fields_of fields_in open_fields
   open_accepted limit highest t room =
       composite_framed limit highest 0 16 (rows_of 16) (open_fields s) t (omega arith) (omega arith) (omega (arith, open_short)) room refl open_whole open_fit (omega arith)

@@ -3,7 +3,7 @@
 use mathlib.Core.Path.{◌≡◌, refl, sym, ap, ◌∙◌}
 use mathlib.Core.Bool.{Bool, true, false, ◌&&◌, false≢true}
 use mathlib.Core.List.{List, [], ◌∷◌}
-use mathlib.Core.Option.{Option, none, some}
+use Rattle.std.specs.Prelude.{Option, None, Some}
 use Prim.Native.Nat.{ℕ, suc, ◌^◌, ◌<◌, ◌≤◌}
 use native.Mathlib.Omega.{arith}
 use lib.ListN.{length}
@@ -27,12 +27,12 @@ use Rattle.codec.proofs.Errors.{error_present, error_shortest}
 
 -- a default is a number of its type
 default_fits : FieldType → Option ℕ → Bool
-default_fits t none = true
-default_fits Any (some n) = false
-default_fits UShort (some n) = ltb n 65536
-default_fits UInt (some n) = ltb n 4294967296
-default_fits String (some n) = false
-default_fits Error (some n) = false
+default_fits t None = true
+default_fits Any (Some n) = false
+default_fits UShort (Some n) = ltb n 65536
+default_fits UInt (Some n) = ltb n 4294967296
+default_fits String (Some n) = false
+default_fits Error (Some n) = false
 
 defaults_fit : List Field → Bool
 defaults_fit [] = true
@@ -46,18 +46,18 @@ all_good : List (ℕ × List Field) → Bool
 all_good [] = true
 all_good (row ∷ rows) = good row.1 && all_good rows
 
-rows_good_in : (table : List (ℕ × List Field)) (code : ℕ) (rows : List Field) → all_good table ≡ true → fields_in table code ≡ some rows → good rows ≡ true
+rows_good_in : (table : List (ℕ × List Field)) (code : ℕ) (rows : List Field) → all_good table ≡ true → fields_in table code ≡ Some rows → good rows ≡ true
 unfolding all_good fields_in
 rows_good_in [] code rows g e = let z : ◌≡◌ {A = ℕ} 0 1 = cc in absurd (omega arith)
 rows_good_in (row ∷ table) code rows g e =
     let h = and_was (good row.1) (all_good table) g in
     go (eqb code row.0) refl h.0 (rows_good_in table code rows h.1)
   where
-    go : (b : Bool) → eqb code row.0 ≡ b → good row.1 ≡ true → (fields_in table code ≡ some rows → good rows ≡ true) → good rows ≡ true
-    go true p g k = let q : row.1 ≡ rows = (let x : some row.1 ≡ some rows = (rw p at e) in cc) in rw q at g
+    go : (b : Bool) → eqb code row.0 ≡ b → good row.1 ≡ true → (fields_in table code ≡ Some rows → good rows ≡ true) → good rows ≡ true
+    go true p g k = let q : row.1 ≡ rows = (let x : Some row.1 ≡ Some rows = (rw p at e) in cc) in rw q at g
     go false p g k = k (rw p at e)
 
-rows_good : (code : ℕ) (rows : List Field) → fields_of code ≡ some rows → good rows ≡ true
+rows_good : (code : ℕ) (rows : List Field) → fields_of code ≡ Some rows → good rows ≡ true
 unfolding fields_of all_good good defaults_fit default_fits
 rows_good code rows e = rows_good_in performatives code rows refl e
 
@@ -97,20 +97,20 @@ meant_value r f e = rw e
 -- null
 default_again : (t : FieldType) (m : Bool) (o : Option ℕ) (f : List ℕ) → is_null f ≡ true → fits t m f ≡ true → default_fits t o ≡ true → Again (record { type = t; mandatory = m; default = o }) f (default_of t o)
 unfolding meant_as shortest default_fits
-default_again t m none f e q d =
-    let r : Field = record { type = t; mandatory = m; default = none } in
+default_again t m None f e q d =
+    let r : Field = record { type = t; mandatory = m; default = None } in
     record { whole = null_whole 15; fine = missing r f e q; same = written_null r null null_first; means = meant_null r null null_first ∙ sym (meant_null r f e) }
-default_again Any m (some n) f e q d = absurd (false≢true d)
-default_again UShort m (some n) f e q d =
-    let r : Field = record { type = UShort; mandatory = m; default = some n } in
+default_again Any m (Some n) f e q d = absurd (false≢true d)
+default_again UShort m (Some n) f e q d =
+    let r : Field = record { type = UShort; mandatory = m; default = Some n } in
     let k : number_of (ushort n) ≡ n = ushort_number n (ltb-true _ _ d) in
     record { whole = ushort_whole n 15; fine = fits_present UShort m (ushort n) (ushort_present n) (ushort_typed n); same = written_value r (ushort n) (ushort_present n) ∙ ap ushort k; means = meant_value r (ushort n) (ushort_present n) ∙ ap number k ∙ sym (meant_null r f e) }
-default_again UInt m (some n) f e q d =
-    let r : Field = record { type = UInt; mandatory = m; default = some n } in
+default_again UInt m (Some n) f e q d =
+    let r : Field = record { type = UInt; mandatory = m; default = Some n } in
     let k : number_of (uint n) ≡ n = uint_number n (ltb-true _ _ d) in
     record { whole = uint_whole n 15; fine = fits_present UInt m (uint n) (uint_present n) (uint_typed n); same = written_value r (uint n) (uint_present n) ∙ ap uint k; means = meant_value r (uint n) (uint_present n) ∙ ap number k ∙ sym (meant_null r f e) }
-default_again String m (some n) f e q d = absurd (false≢true d)
-default_again Error m (some n) f e q d = absurd (false≢true d)
+default_again String m (Some n) f e q d = absurd (false≢true d)
+default_again Error m (Some n) f e q d = absurd (false≢true d)
 
 -- any other value
 shortest_present : (t : FieldType) (f : List ℕ) → is_null f ≡ false → Whole 16 f → has_type t f ≡ true → is_null (shortest t f) ≡ false
@@ -216,7 +216,7 @@ pub record Rewritten (rows : List Field) (fs gs : List (List ℕ)) : Type 0 wher
   pub same : trimmed (written_fields rows gs) ≡ gs
   pub means : meanings rows gs ≡ meanings rows fs
 
-pub rewritten : (code : ℕ) (rows : List Field) (fs : List (List ℕ)) → fields_of code ≡ some rows → Each (Whole 16) fs → fit rows fs ≡ true → Octets (joined fs) → length (joined (trimmed (written_fields rows fs))) < 256 ^ 4 → Rewritten rows fs (trimmed (written_fields rows fs))
+pub rewritten : (code : ℕ) (rows : List Field) (fs : List (List ℕ)) → fields_of code ≡ Some rows → Each (Whole 16) fs → fit rows fs ≡ true → Octets (joined fs) → length (joined (trimmed (written_fields rows fs))) < 256 ^ 4 → Rewritten rows fs (trimmed (written_fields rows fs))
 unfolding good
 rewritten code rows fs e w q o low =
     let ws : List (List ℕ) = written_fields rows fs in

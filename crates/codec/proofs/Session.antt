@@ -4,7 +4,7 @@
 use mathlib.Core.Path.{◌≡◌, refl, sym, ap, ◌∙◌, subst}
 use mathlib.Core.Bool.{Bool, true, false, ◌&&◌, ◌||◌}
 use mathlib.Core.List.{List, [], ◌∷◌, ◌++◌, append-nil}
-use mathlib.Core.Option.{Option, none, some}
+use Rattle.std.specs.Prelude.{Option, None, Some}
 use Prim.Native.Nat.{ℕ, ◌+◌, ◌-◌, ◌^◌, ◌<◌, ◌≤◌}
 use native.Mathlib.Omega.{arith}
 use lib.ListN.{length, drop, get_or, length-append}
@@ -37,15 +37,15 @@ use Rattle.codec.proofs.Rewritten.{Rewritten, rewritten}
 -- a performative at the front of s
 record Read (s : List ℕ) (p : Performative) : Type 0 where
   rows : List Field
-  named : fields_of p.code ≡ some rows
+  named : fields_of p.code ≡ Some rows
   whole : Each (Whole 16) p.fields
   fine : fit rows p.fields ≡ true
   octets : Octets s → Octets (joined p.fields)
 
-rows_were : (o : Option (List Field)) (rows : List Field) → rows_for o ≡ accept rows → o ≡ some rows
+rows_were : (o : Option (List Field)) (rows : List Field) → rows_for o ≡ accept rows → o ≡ Some rows
 unfolding rows_for
-rows_were none rows e = absurd (never 6 rows e)
-rows_were (some r) rows e = ap some (accepted r rows e)
+rows_were None rows e = absurd (never 6 rows e)
+rows_were (Some r) rows e = ap Some (accepted r rows e)
 
 performative_was : (s : List ℕ) (p : Performative) → performative s ≡ accept p → Read s p
 unfolding performative performative_by fields_by
@@ -117,7 +117,7 @@ channel_meant_lem p = go (is_null (field 0 p)) refl
     go true e = rw e
     go false e = rw e
 
-begin_same : (rows : List Field) (p q : Performative) → fields_of 17 ≡ some rows → meanings rows q.fields ≡ meanings rows p.fields → remote_channel q ≡ remote_channel p
+begin_same : (rows : List Field) (p q : Performative) → fields_of 17 ≡ Some rows → meanings rows q.fields ≡ meanings rows p.fields → remote_channel q ≡ remote_channel p
 unfolding fields_of fields_in
 begin_same rows p q e m =
     let n : meanings (rows_of 17) q.fields ≡ meanings (rows_of 17) p.fields = subst (λ (rs : List Field). meanings rs q.fields ≡ meanings rs p.fields) (sym (ap given e)) m in
@@ -125,7 +125,7 @@ begin_same rows p q e m =
     ∙ ap channel_meant (sym (first_meant (may UShort) _ q.fields) ∙ ap (λ (ms : List Meaning). get_or ms 0 absent) n ∙ first_meant (may UShort) _ p.fields)
     ∙ sym (channel_meant_lem p)
 
-begins_same : (rows : List Field) (p q : Performative) → fields_of p.code ≡ some rows → q.code ≡ p.code → meanings rows q.fields ≡ meanings rows p.fields → begins_for (eqb q.code 17) q ≡ begins_for (eqb p.code 17) p
+begins_same : (rows : List Field) (p q : Performative) → fields_of p.code ≡ Some rows → q.code ≡ p.code → meanings rows q.fields ≡ meanings rows p.fields → begins_for (eqb q.code 17) q ≡ begins_for (eqb p.code 17) p
 begins_same rows p q e c m = ap (λ (n : ℕ). begins_for (eqb n 17) q) c ∙ go (eqb p.code 17) refl
   where
     go : (b : Bool) → eqb p.code 17 ≡ b → begins_for b q ≡ begins_for b p
@@ -203,8 +203,8 @@ module _ (highest : ℕ) (s : List ℕ) (f : Frame) (p : Performative) (o : Octe
   unfolding content composite_header and_then body again
   peer_passes limit peer h room =
       let n : length (frame_bytes f.channel body) ≤ limit = rw bytes_are at room in
-      passes limit peer (frame_bytes f.channel body) (session_bytes s (f, p)) (frame_of f.channel body, some again) bytes_are n
-      (framed_read limit peer f.channel body [] (omega arith) h frame_low n (some again) (rw again_read))
+      passes limit peer (frame_bytes f.channel body) (session_bytes s (f, p)) (frame_of f.channel body, Some again) bytes_are n
+      (framed_read limit peer f.channel body [] (omega arith) h frame_low n (Some again) (rw again_read))
 
   module _ (after : List ℕ) where
     frame_again : frame any_size any_channel (frame_bytes f.channel body ++ after) ≡ accept (frame_of f.channel body)

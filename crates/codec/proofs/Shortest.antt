@@ -95,12 +95,12 @@ unfolding has_type starts_with kind_of kind_in codes
 uint_low d [] e h o = absurd (false≢true e)
 uint_low d (c ∷ s) e h o = go (or_cases (eqb c 0x70) _ e)
   where
-    none : (false ≡ true) → number_of (c ∷ s) < 256 ^ 4
-    none x = absurd (false≢true x)
+    None : (false ≡ true) → number_of (c ∷ s) < 256 ^ 4
+    None x = absurd (false≢true x)
 
     third : (eqb c 0x43 ≡ true) ⊎ (false ≡ true) → number_of (c ∷ s) < 256 ^ 4
     third (inl x) = let q : c ≡ 0x43 = eqb-true _ _ x in let l : number_of (c ∷ s) < 256 ^ 0 = fixed_low d c 0 s (rw q refl) h o.1 in omega arith
-    third (inr x) = none x
+    third (inr x) = None x
 
     second : (eqb c 0x52 ≡ true) ⊎ ((eqb c 0x43 || false) ≡ true) → number_of (c ∷ s) < 256 ^ 4
     second (inl x) = let q : c ≡ 0x52 = eqb-true _ _ x in let l : number_of (c ∷ s) < 256 ^ 1 = fixed_low d c 1 s (rw q refl) h o.1 in omega arith

@@ -170,9 +170,9 @@ composite_present code fs = refl
 -- one to three values, of which the first is a symbol
 pub error_typed : (fs : List (List ℕ)) → 1 ≤ length fs → length fs ≤ 3 → length (joined fs) + 4 < 256 ^ 4 → starts_with (0xa3 ∷ 0xb3 ∷ []) (joined fs) ≡ true → has_type Error (composite_of 29 fs) ≡ true
 unfolding has_type is_error error_shape
-error_typed fs some few low e =
+error_typed fs Some few low e =
     let f : length fs < 256 = omega arith in
-    rw (described_alone 29 fs f low, items_alone 29 fs f low, le-leb 1 (length fs) some, le-leb (length fs) 3 few) e
+    rw (described_alone 29 fs f low, items_alone 29 fs f low, le-leb 1 (length fs) Some, le-leb (length fs) 3 few) e
 
 -- where its condition stands
 pub condition_read : (i : ℕ) (p : Performative) (fs : List (List ℕ)) → field i p ≡ composite_of 29 fs → length fs < 256 → length (joined fs) + 4 < 256 ^ 4

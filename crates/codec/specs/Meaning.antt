@@ -1,7 +1,6 @@
 -- What the fields of a performative mean, whichever way they are written; and what it means that a session's frame that was written is read back.
 -- Assumes nothing: these are definitions.
-use Rattle.std.specs.Prelude.{ℕ, ◌<◌, ◌≡◌, cond, List, [], ◌∷◌, ◌++◌, length, drop}
-use Rattle.std.proofs.Math.Option.{Option, none, some}
+use Rattle.std.specs.Prelude.{ℕ, ◌<◌, ◌≡◌, cond, List, [], ◌∷◌, ◌++◌, length, drop, Option, None, Some}
 use Rattle.octets.specs.Verdict.{Verdict, refuse, accept}
 use Rattle.values.specs.Null.{null, is_null}
 use Rattle.serializer.specs.Written.{trimmed}
@@ -36,8 +35,8 @@ meant_as String f = text (text_of f)
 meant_as Error f = error_meant (error_fields f (described f))
 
 abbrev pub default_meant : Option ℕ → Meaning
-default_meant none = absent
-default_meant (some n) = number n
+default_meant None = absent
+default_meant (Some n) = number n
 
 -- null is the default, if the field has one
 unfoldable pub meant : Field → List ℕ → Meaning
@@ -50,8 +49,8 @@ meanings (r ∷ rows) [] = meant r null ∷ meanings rows []
 meanings (r ∷ rows) (f ∷ fs) = meant r f ∷ meanings rows fs
 
 abbrev pub meanings_by : Option (List Field) → List (List ℕ) → List Meaning
-meanings_by none fs = []
-meanings_by (some rows) fs = meanings rows fs
+meanings_by None fs = []
+meanings_by (Some rows) fs = meanings rows fs
 
 abbrev pub meanings_of : Performative → List Meaning
 meanings_of p = meanings_by (fields_of p.code) p.fields

@@ -1,7 +1,6 @@
 -- What it means that a frame that was written is read back.
 -- Assumes nothing: these are definitions.
-use Rattle.std.specs.Prelude.{ℕ, ◌≤◌, ◌≡◌, true, List, [], ◌∷◌, ◌++◌, length, take, drop}
-use Rattle.std.proofs.Math.Option.{Option, none, some}
+use Rattle.std.specs.Prelude.{ℕ, ◌≤◌, ◌≡◌, true, List, [], ◌∷◌, ◌++◌, length, take, drop, Option, None, Some}
 use Rattle.octets.specs.Verdict.{accept, accepts}
 use Rattle.values.specs.Null.{null}
 use Rattle.serializer.specs.Written.{text}
@@ -16,13 +15,13 @@ frame_of channel body = record { size = length (frame_bytes channel body); chann
 -- a reader with this limit and this highest channel reads the frame, whatever stands after it, and finds a performative that says so
 pub record ReadBack (limit highest channel : ℕ) (body after : List ℕ) (Says : Performative → Type 0) : Type 0 where
   pub found : Performative
-  pub read : read_frame limit highest (frame_bytes channel body ++ after) ≡ accept (frame_of channel body, some found)
+  pub read : read_frame limit highest (frame_bytes channel body ++ after) ≡ accept (frame_of channel body, Some found)
   pub says : Says found
 
 -- no idle-time-out counts as zero
 abbrev pub millis : Option ℕ → ℕ
-millis none = 0
-millis (some n) = n
+millis None = 0
+millis (Some n) = n
 
 -- an Open with these settings and no more
 pub record OpenSays (s : Settings) (p : Performative) : Type 0 where
@@ -37,8 +36,8 @@ pub record OpenSays (s : Settings) (p : Performative) : Type 0 where
 
 -- no condition; or the place and the length of one, which stands there
 abbrev pub ConditionIn : List ℕ → Option ErrorText → List ℕ → Type 0
-ConditionIn body none found = found ≡ []
-ConditionIn body (some e) found =
+ConditionIn body None found = found ≡ []
+ConditionIn body (Some e) found =
     (at : ℕ) × (found ≡ at ∷ length e.condition ∷ []) × (take (length e.condition) (drop at body) ≡ e.condition)
 
 -- a Close with this error, or with none

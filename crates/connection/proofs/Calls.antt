@@ -3,15 +3,12 @@
 use mathlib.Core.Path.{◌≡◌, refl, sym, ◌∙◌, ap, subst, subst₂}
 use mathlib.Core.Bool.{true, false}
 use mathlib.Core.List.{List, [], ◌∷◌}
+use Rattle.std.specs.Prelude.{Result, Ok, Err}
 use Prim.Native.Nat.{ℕ}
 use native.Mathlib.Omega.{arith}
-use types.Run.{OneOf, miss}
-use denote.Enum.Declared.{tag_of}
 use Rattle.octets.specs.Verdict.{Verdict, refuse, accept}
 use Rattle.octets.specs.Output.{laid}
-use Rattle.octets.specs.declared.Written.{Written}
-use Rattle.octets.specs.declared.Written.TheVariants.{Bytes, Refused}
-use Rattle.octets.specs.contracts.Written.{the_type}
+use Rattle.octets.specs.declared.Refusal.{Refusal}
 use Rattle.connection_model.specs.Connection.{Answer, Outcome, Call, Effect, decide, next, lent, answered, after, written, says, apply}
 use Rattle.connection_model.specs.Sound.{Reached}
 use Rattle.connection_model.proofs.Invariant.{reached_next}
@@ -163,10 +160,8 @@ pub moved_same : (c d : Connection) (t id : List ℕ) (x : ConnectionState) → 
 moved_same c d t id x q = subst (λ u. E.Same (endpoint_in (whole c t id)) (endpoint_in (whole u t id))) (sym q) (same_all (endpoint_in (whole c t id)))
 
 -- by what was written
-pub moved_told : (c d : Connection) (a : Written) (x : ConnectionState) → OneOf (0 ∷ []) (tag_of the_type a) → d ≡ moved_to c x → d ≡ moved_if a c x
-moved_told c d (Bytes n) x o p = p
-moved_told c d (Refused k) x o p = absurd (miss (0 ∷ []) 1 tt o)
+pub moved_told : (c d : Connection) (a : Result ℕ Refusal) (n : ℕ) (x : ConnectionState) → a ≡ Ok n → d ≡ moved_to c x → d ≡ moved_if a c x
+moved_told c d a n x o p = rw (o, p)
 
-pub kept_told : (c : Connection) (a : Written) (x : ConnectionState) → OneOf (1 ∷ []) (tag_of the_type a) → c ≡ moved_if a c x
-kept_told c (Bytes n) x o = absurd (miss (1 ∷ []) 0 tt o)
-kept_told c (Refused k) x o = refl
+pub kept_told : (c : Connection) (a : Result ℕ Refusal) (e : Refusal) (x : ConnectionState) → a ≡ Err e → c ≡ moved_if a c x
+kept_told c a e x o = rw o

@@ -3,40 +3,33 @@
 use mathlib.Core.Path.{◌≡◌, refl, sym, ◌∙◌, ap, subst}
 use mathlib.Core.Bool.{Bool, true, false, ◌&&◌}
 use mathlib.Core.List.{List}
-use mathlib.Core.Option.{Option, none, some}
+use Rattle.std.specs.Prelude.{Option, Result, Ok, Err}
 use Prim.Native.Nat.{ℕ, suc}
 use Rattle.octets.specs.Verdict.{Verdict, refuse, accept}
+use Rattle.octets.specs.Refusal.{number_of, judged}
+use Rattle.octets.specs.declared.Refusal.{Refusal}
+use Rattle.octets.specs.declared.Refusal.TheVariants.{OutOfBounds}
 use Rattle.octets.proofs.Laws.{require_on, require_off}
 use Rattle.frame_encoder.specs.Frames.{Settings}
 use Rattle.connection_model.specs.Sound.{Reached}
 use Rattle.connection_model.proofs.Invariant.{reached_fresh, shares}
-use Rattle.connection_state.specs.declared.ConnectionState.{ConnectionState}
 use Rattle.connection_state.specs.declared.ConnectionState.TheVariants.{Start}
 use Rattle.channels.specs.Places.{Covers, covers, past}
 use Rattle.channels.specs.Numbers.{taken_below}
-use Rattle.channels.specs.Channels.{held_says}
 use Rattle.channels.specs.Lists.{Listed, Clears}
-use Rattle.channels.specs.declared.Held.{Held}
-use Rattle.channels.specs.declared.Held.TheVariants.{Handle, Nothing}
 use Rattle.channels.proofs.Kept.{covers_true, covers_fewer}
 use Rattle.local_open.specs.declared.LocalOpen.{LocalOpen}
-use Rattle.local_open.specs.declared.NewOpen.{NewOpen}
-use Rattle.local_open.specs.declared.NewOpen.TheVariants.{Taken, Refused as Beyond}
 use Rattle.local_open.specs.Settings.{allowed, checked, open_says, new_says}
 use Rattle.local_open.proofs.Laws.{taken_allowed, taken_says_is, refused_beyond, refused_eight}
 use Rattle.endpoint.specs.declared.Endpoint.{Endpoint}
 use Rattle.endpoint.specs.declared.Role as R
-use Rattle.endpoint.specs.declared.ResumedEndpoint.{ResumedEndpoint}
-use Rattle.endpoint.specs.declared.ResumedEndpoint.TheVariants.{Is, Broken}
 use Rattle.endpoint.specs.Answers.{places_of, role_says}
 use Rattle.endpoint.specs.Promises.{Counted, new_endpoint}
 use Rattle.endpoint.specs.Promises as E
 use Rattle.endpoint.proofs.Opening.{Begins, begins}
 use Rattle.connection.specs.declared.Connection.{Connection}
-use Rattle.connection.specs.declared.NewConnection.TheVariants.{Made, Refused as NotMade}
-use Rattle.connection.specs.declared.ResumedConnection.TheVariants as Kept
 use Rattle.connection.specs.View.{Whole, whole, endpoint_in, settings_of, view_of, Sound}
-use Rattle.connection.specs.Promises.{Makes, Begun, Looks, Counts, is_covered, resumed_in}
+use Rattle.connection.specs.Promises.{Makes, Begun, Looks, Counts, is_covered}
 use Rattle.connection.proofs.Calls.{apart, unsound}
 
 -- ---- a new connection
@@ -48,27 +41,27 @@ and_true : (a b : Bool) → a ≡ true → a && b ≡ b
 and_true a b e = rw e
 
 -- refused, whatever for: the tables are as they were
-not_made : (role : R.Role) (S : Settings) (t : List ℕ) (k : ℕ) → k ≡ 8 → allowed S && covers (suc S.channel_max) t ≡ false → Makes (role_says role) S t (NotMade k) t
+not_made : (role : R.Role) (S : Settings) (t : List ℕ) (k : Refusal) → k ≡ OutOfBounds → allowed S && covers (suc S.channel_max) t ≡ false → Makes (role_says role) S t (Err k) t
 not_made role S t k e f = record {
-  checks = ap refuse e ∙ sym (require_off 8 _ _ f);
+  checks = ap (λ u. refuse (number_of u)) e ∙ sym (require_off 8 _ _ f);
   made = λ c q. apart (cc);
   refused = λ j q. refl;
   made_long = refl;
   made_past = refl;
 }
 
-module _ (role : R.Role) (S : Settings) (n : NewOpen) (says : new_says S.container_id n ≡ checked S) (t : List ℕ) where
+module _ (role : R.Role) (S : Settings) (n : Result LocalOpen Refusal) (says : new_says S.container_id n ≡ checked S) (t : List ℕ) where
   -- its settings are beyond their limits
-  pub makes_beyond : (k : ℕ) → n ≡ Beyond k → Makes (role_says role) S t (NotMade k) t
+  pub makes_beyond : (k : Refusal) → n ≡ Err k → Makes (role_says role) S t (Err k) t
   makes_beyond k q = not_made role S t k (refused_eight S.container_id S n says k q) (and_false _ _ (refused_beyond S.container_id S n says k q))
 
-  module _ (o : LocalOpen) (q : n ≡ Taken o) (b : Bool) (c : b ≡ covers (suc S.channel_max) t) where
+  module _ (o : LocalOpen) (q : n ≡ Ok o) (b : Bool) (c : b ≡ covers (suc S.channel_max) t) where
     fine : allowed S ≡ true
     fine = taken_allowed S.container_id S n says o q
 
     -- its tables are too short
-    pub makes_uncovered : b ≡ false → Makes (role_says role) S t (NotMade 8) t
-    makes_uncovered f = not_made role S t 8 refl (and_true _ _ fine ∙ sym c ∙ f)
+    pub makes_uncovered : b ≡ false → Makes (role_says role) S t (Err OutOfBounds) t
+    makes_uncovered f = not_made role S t OutOfBounds refl (and_true _ _ fine ∙ sym c ∙ f)
 
     module _ (e : Endpoint) (t' : List ℕ) (new : (e ≡ new_endpoint role o) × Clears (suc o.channel_max) t t') (y : b ≡ true) where
       g : Begins role o t e t'
@@ -99,7 +92,7 @@ module _ (role : R.Role) (S : Settings) (n : NewOpen) (says : new_says S.contain
         begun_counted = g.begins_counted;
       }
 
-      pub makes : Makes (role_says role) S t (Made it) t'
+      pub makes : Makes (role_says role) S t (Ok it) t'
       makes = record {
         checks = sym (require_on 8 _ _ (and_true _ _ fine ∙ sym c ∙ y));
         made = λ d p. subst (λ u. Begun (role_says role) S (whole u t' S.container_id)) (let z : it ≡ d = cc in z) begun;
@@ -107,14 +100,6 @@ module _ (role : R.Role) (S : Settings) (n : NewOpen) (says : new_says S.contain
         made_long = g.begins_long;
         made_past = subst (λ m. past m t' ≡ past m t) most g.begins_past;
       }
-
--- ---- one that was kept
-
-pub resumed_broken : (x : ConnectionState) (r s : ResumedEndpoint) → r ≡ s → r ≡ Broken → Kept.Broken ≡ resumed_in x s
-resumed_broken x r s p q = sym (ap (resumed_in x) q) ∙ ap (resumed_in x) p
-
-pub resumed_holds : (x : ConnectionState) (r s : ResumedEndpoint) (e : Endpoint) → r ≡ s → r ≡ Is e → Kept.Is (record { local_state = x; endpoint = e }) ≡ resumed_in x s
-resumed_holds x r s e p q = sym (ap (resumed_in x) q) ∙ ap (resumed_in x) p
 
 -- ---- what makes a connection sound: settings within their limits, lists that agree with the ties, counts within their limits, and what holds of every connection
 
@@ -133,19 +118,13 @@ counted_sound w a l k r =
 
 -- ---- what is looked up
 
-pub looked_handle : (r : Held) (h : ℕ) → r ≡ Handle h → accept (some h) ≡ accept (held_says r)
-looked_handle r h q = sym (ap (λ u. accept (held_says u)) q)
-
-pub looked_nothing : (r : Held) → r ≡ Nothing → accept none ≡ accept (held_says r)
-looked_nothing r q = sym (ap (λ u. accept (held_says u)) q)
-
 module _ (w : Whole) (found : Option ℕ) (b : Bool) (c : b ≡ is_covered w) where
   pub looks_uncovered : b ≡ false → Looks w found (refuse 8)
   looks_uncovered f = record { looks = unsound w (sym c ∙ f); looks_not = λ n. refl }
 
-  pub looks_found : b ≡ true → (r : Held) (a : Verdict (Option ℕ)) → (E.Sound (endpoint_in w) → held_says r ≡ found) → a ≡ accept (held_says r) → Looks w found a
-  looks_found y r a f p = record {
-    looks = λ z. p ∙ ap accept (f z.held);
+  pub looks_found : b ≡ true → (h : Option ℕ) → (E.Sound (endpoint_in w) → h ≡ found) → Looks w found (accept h)
+  looks_found y h f = record {
+    looks = λ z. ap accept (f z.held);
     looks_not = λ n. (let z : true ≡ false = sym y ∙ c ∙ n in apart (cc));
   }
 

@@ -3,19 +3,22 @@
 use mathlib.Core.Path.{◌≡◌, refl, sym, ◌∙◌, ap, ap₂, subst}
 use mathlib.Core.Bool.{Bool, true, false, cond}
 use mathlib.Core.List.{List, [], ◌∷◌}
-use mathlib.Core.Option.{Option, none, some}
+use Rattle.std.specs.Prelude.{Option, None, Some, Result, Ok, Err, is_some}
 use Prim.Native.Nat.{ℕ, ◌≤◌, ◌<◌, min}
 use native.Mathlib.Omega.{arith}
 use lib.Dec.{leb, eqb}
 use borrow.Author.Tests.{eqb-true, le-leb}
 use Rattle.octets.specs.Verdict.{Verdict, refuse, accept, require, and_then}
 use Rattle.octets.specs.Output.{laid}
+use Rattle.octets.specs.Refusal.{number_of}
+use Rattle.octets.specs.declared.Refusal.{Refusal}
+use Rattle.octets.specs.declared.Refusal.TheVariants.{IllegalState}
 use Rattle.octets.proofs.Laws.{require_on, then_accept, then_refuse}
 use Rattle.performatives.specs.Performative.{Performative, said, values_in, values_of, max_frame_size, channel_max, idle_time_out, remote_channel, condition}
 use Rattle.frame_decoder.specs.Frame.{Frame, FrameSaid, read_frame, said_of, frame_said}
 use Rattle.frame_decoder.specs.Answers.{frame_answer, ending_at, frame_says}
 use Rattle.frame_decoder.specs.declared.Frame as F
-use Rattle.frame_decoder.specs.declared.Frame.TheVariants.{Refused, Empty, Body}
+use Rattle.frame_decoder.specs.declared.Frame.TheVariants.{Empty, Body}
 use Rattle.frame_decoder.proofs.Laws.{frame_was, read_was}
 use Rattle.performatives.specs.declared.Performative as P
 use Rattle.performatives.specs.declared.Performative.TheVariants.{Open, Begin, Attach, Flow, Transfer, Disposition, Detach, End, Close}
@@ -24,13 +27,11 @@ use Rattle.performatives.specs.Answers.{performative_says, condition_says}
 use Rattle.protocol_header.specs.Header.{Protocol, amqp100, other, received}
 use Rattle.protocol_header.specs.Answers as H
 use Rattle.protocol_header.specs.declared.HeaderRead.{HeaderRead}
-use Rattle.protocol_header.specs.declared.HeaderRead.TheVariants.{Amqp, Other, Malformed, Missing}
+use Rattle.protocol_header.specs.declared.HeaderRead.TheVariants.{Amqp, Other}
 use Rattle.protocol_header.specs.declared.ProtocolHeader.{ProtocolHeader as HeaderStruct}
 use Rattle.frame_encoder.specs.Frames.{Settings}
 use Rattle.connection_state.specs.States.{State, Move, Discarding, is, is_one_of, along, reading, before_open, receive_header, receive_other_header, read_open, read_close}
 use Rattle.connection_state.specs.declared.ConnectionState.{ConnectionState}
-use Rattle.connection_state.specs.declared.Moved.{Moved}
-use Rattle.connection_state.specs.declared.Moved.TheVariants.{To, Illegal}
 use Rattle.connection_state.specs.Answers.{state_says, moved_says}
 use Rattle.channels.specs.Ties.{Tie}
 use Rattle.connection_model.specs.Connection as M
@@ -40,7 +41,6 @@ use Rattle.connection_model.proofs.Invariant.{before_open_is}
 use Rattle.endpoint.specs.declared.Endpoint.{Endpoint}
 use Rattle.endpoint.specs.declared.Incoming.{Incoming}
 use Rattle.endpoint.specs.declared.Routed.{Routed}
-use Rattle.endpoint.specs.declared.FrameAnswer.TheVariants.{Refused as NoFrame}
 use Rattle.endpoint.specs.Answers as A
 use Rattle.endpoint.specs.Answers.{places_of, frame_of, answer_says}
 use Rattle.endpoint.specs.Promises as E
@@ -49,7 +49,6 @@ use Rattle.endpoint.proofs.Basics.{same_all}
 use Rattle.connection.specs.declared.Connection.{Connection}
 use Rattle.connection.specs.declared.ReceivedHeader.{ReceivedHeader}
 use Rattle.connection.specs.declared.ReceivedFrame.{ReceivedFrame}
-use Rattle.connection.specs.declared.HeaderAnswer.TheVariants.{Refused as NoHeader}
 use Rattle.connection.specs.View.{Whole, whole, endpoint_in, role_of, settings_of, view_of, Sound, header_says}
 use Rattle.connection.specs.Promises.{Does, Reads, ReadsIn, ReadsBy, moved_to, bare_says, open_said, said_read}
 use Rattle.connection.proofs.Calls.{refuses, Quiet, reads_does, stepped, refused_reads, accepted_reads, moved_held, moved_same}
@@ -111,8 +110,8 @@ answer_refused limit highest s k e = go (read_frame limit highest s) refl e
     go (accept r) p q = let z : ◌≡◌ {A = ℕ} 0 1 = cc in absurd (omega arith)
 
 -- a frame with a performative p, that says what its answer says
-module _ (limit highest : ℕ) (s : List ℕ) (ch size from end : ℕ) (p : P.Performative) (e : frame_says (Body ch size from p end) ≡ frame_answer limit highest s) where
-  was : (r : Frame × Option Performative) × (read_frame limit highest s ≡ accept r) × (frame_said r ≡ record { size = size; channel = ch; from = from; content = some (ending_at end p) })
+module _ (limit highest : ℕ) (s : List ℕ) (ch size from end : ℕ) (p : P.Performative) (e : frame_says (Ok (Body ch size from p end)) ≡ frame_answer limit highest s) where
+  was : (r : Frame × Option Performative) × (read_frame limit highest s ≡ accept r) × (frame_said r ≡ record { size = size; channel = ch; from = from; content = Some (ending_at end p) })
   was = answer_was limit highest s _ e
 
   -- its channel is within the highest
@@ -124,10 +123,10 @@ module _ (limit highest : ℕ) (s : List ℕ) (ch size from end : ℕ) (p : P.Pe
 
   module _ (role : Role) (S : Settings) (c : M.Connection) (h : ℕ) where
     by_said :
-        (f : Frame) (o : Option Performative) → said_of o ≡ some (ending_at end p)
+        (f : Frame) (o : Option Performative) → said_of o ≡ Some (ending_at end p)
         → frame_read role S c h (f, o) ≡ said_read role S c f h (performative_says p).0 (performative_says p).1
-    by_said f none q = let z : ◌≡◌ {A = ℕ} 0 1 = cc in absurd (omega arith)
-    by_said f (some x) q =
+    by_said f None q = let z : ◌≡◌ {A = ℕ} 0 1 = cc in absurd (omega arith)
+    by_said f (Some x) q =
         let w : said x ≡ ending_at end p = cc in
         read_said role S c f h x ∙ ap₂ (said_read role S c f h) (ap (λ y. y.code) w) (ap (λ y. y.values) w)
 
@@ -142,30 +141,27 @@ module _ (limit highest : ℕ) (s : List ℕ) (ch size from end : ℕ) (p : P.Pe
 
 -- an empty frame
 pub empty_comes :
-    (limit highest : ℕ) (s : List ℕ) (ch size from : ℕ) (role : Role) (S : Settings) (c : M.Connection) (h : ℕ) → frame_says (Empty ch size from) ≡ frame_answer limit highest s
+    (limit highest : ℕ) (s : List ℕ) (ch size from : ℕ) (role : Role) (S : Settings) (c : M.Connection) (h : ℕ) → frame_says (Ok (Empty ch size from)) ≡ frame_answer limit highest s
     → and_then (read_frame limit highest s) (frame_read role S c h) ≡ says (nothing_to_do size) stay
 empty_comes limit highest s ch size from role S c h e =
     let w = answer_was limit highest s _ e in
     then_accept _ _ w.0 w.1 ∙ by_none w.0.0 w.0.1 (ap (λ y. y.size) w.2) (ap (λ y. y.content) w.2)
   where
-    by_none : (f : Frame) (o : Option Performative) → f.size ≡ size → said_of o ≡ none → frame_read role S c h (f, o) ≡ says (nothing_to_do size) stay
-    by_none f none p q = ap (λ n. says (nothing_to_do n) stay) p
-    by_none f (some x) p q = let z : ◌≡◌ {A = ℕ} 0 1 = cc in absurd (omega arith)
+    by_none : (f : Frame) (o : Option Performative) → f.size ≡ size → said_of o ≡ None → frame_read role S c h (f, o) ≡ says (nothing_to_do size) stay
+    by_none f None p q = ap (λ n. says (nothing_to_do n) stay) p
+    by_none f (Some x) p q = let z : ◌≡◌ {A = ℕ} 0 1 = cc in absurd (omega arith)
 
 -- ---- which frame it is
 
-pub bare_not : (r : F.Frame) (k : ℕ) → r ≡ Refused k → refuse k ≡ bare_says r
-bare_not r k e = sym (ap bare_says e)
-
-pub bare_empty : (r : F.Frame) (ch size from : ℕ) → r ≡ Empty ch size from → accept (nothing_to_do size) ≡ bare_says r
+pub bare_empty : (r : F.Frame) (ch size from : ℕ) → r ≡ Empty ch size from → nothing_to_do size ≡ bare_says r
 bare_empty r ch size from e = sym (ap bare_says e)
 
-pub bare_body : (r : F.Frame) (ch size from end : ℕ) (p : P.Performative) → r ≡ Body ch size from p end → accept (nothing_to_do size) ≡ bare_says r
+pub bare_body : (r : F.Frame) (ch size from end : ℕ) (p : P.Performative) → r ≡ Body ch size from p end → nothing_to_do size ≡ bare_says r
 bare_body r ch size from end p e = sym (ap bare_says e)
 
 -- ---- which performative it is not
 
-pub not_close : (p : P.Performative) → ((e : Condition) → p ≡ Close e → ⊥) → eqb (performative_says p).0 24 ≡ false
+pub not_close : (p : P.Performative) → ((e : Option Condition) → p ≡ Close e → ⊥) → eqb (performative_says p).0 24 ≡ false
 not_close (Open a b c) h = refl
 not_close (Begin r) h = refl
 not_close Attach h = refl
@@ -219,32 +215,32 @@ quiet_headed c amqp100 = quiet_then _ _ (λ x. quiet_says _ _)
 quiet_headed c (other h) = quiet_then _ _ (λ x. quiet_says _ _)
 
 pub quiet_given : (h : ℕ) (l : Option (List ℕ)) → Quiet (M.given h l)
-quiet_given h none = quiet_refuse 21
-quiet_given h (some []) = quiet_refuse 23
-quiet_given h (some (ch ∷ rest)) = quiet_says _ _
+quiet_given h None = quiet_refuse 21
+quiet_given h (Some []) = quiet_refuse 23
+quiet_given h (Some (ch ∷ rest)) = quiet_says _ _
 
 pub quiet_released : (ch : ℕ) (o : Option ℕ) → Quiet (M.released ch o)
-quiet_released ch none = quiet_refuse 26
-quiet_released ch (some h) = quiet_says _ _
+quiet_released ch None = quiet_refuse 26
+quiet_released ch (Some h) = quiet_says _ _
 
 module _ (role : Role) (S : Settings) (c : M.Connection) (f : Frame) (h : ℕ) where
   quiet_tie : (r : ℕ) (o : Option ℕ) → Quiet (M.tie_to f r o)
-  quiet_tie r none = quiet_refuse 24
-  quiet_tie r (some k) = quiet_says _ _
+  quiet_tie r None = quiet_refuse 24
+  quiet_tie r (Some k) = quiet_says _ _
 
   quiet_untie : (o : Option Tie) → Quiet (M.untie f o)
-  quiet_untie none = quiet_refuse 24
-  quiet_untie (some k) = quiet_says _ _
+  quiet_untie None = quiet_refuse 24
+  quiet_untie (Some k) = quiet_says _ _
 
   quiet_pass : (code : ℕ) (o : Option Tie) → Quiet (M.pass_on f code o)
-  quiet_pass code none = quiet_refuse 24
-  quiet_pass code (some k) = quiet_says _ _
+  quiet_pass code None = quiet_refuse 24
+  quiet_pass code (Some k) = quiet_says _ _
 
   quiet_new : (ρ : Role) (l : Option (List ℕ)) → Quiet (M.new_session ρ f h l)
   quiet_new M.dialler l = quiet_refuse 25
-  quiet_new M.listener none = quiet_refuse 25
-  quiet_new M.listener (some []) = quiet_refuse 25
-  quiet_new M.listener (some (ch ∷ rest)) = quiet_says _ _
+  quiet_new M.listener None = quiet_refuse 25
+  quiet_new M.listener (Some []) = quiet_refuse 25
+  quiet_new M.listener (Some (ch ∷ rest)) = quiet_says _ _
 
   quiet_begun : (rs : List ℕ) → Quiet (begun role c f h rs)
   quiet_begun [] = quiet_new role c.hand_out
@@ -268,61 +264,61 @@ module _ (role : Role) (S : Settings) (c : M.Connection) (f : Frame) (h : ℕ) w
 -- ---- what the private functions come to
 
 -- it was refused, and the connection is as it was
-abbrev pub NoHeaderAs : ℕ → Connection → ReceivedHeader → Type 0
-NoHeaderAs k c s = (s.answer ≡ NoHeader k) × (s.connection ≡ c)
+abbrev pub NoHeaderAs : Refusal → Connection → ReceivedHeader → Type 0
+NoHeaderAs k c s = (s.answer ≡ Err k) × (s.connection ≡ c)
 
-abbrev pub NoFrameAs : ℕ → Connection → ReceivedFrame → Type 0
-NoFrameAs k c s = (s.answer ≡ NoFrame k) × (s.connection ≡ c)
+abbrev pub NoFrameAs : Refusal → Connection → ReceivedFrame → Type 0
+NoFrameAs k c s = (s.answer ≡ Err k) × (s.connection ≡ c)
 
 -- nothing is agreed in a state that the peer's Open leads on from
-unagreed : (w : Whole) (x : State) → Sound w → along read_open (view_of w).state ≡ accept x → (view_of w).agreed_max ≡ none
+unagreed : (w : Whole) (x : State) → Sound w → along read_open (view_of w).state ≡ accept x → (view_of w).agreed_max ≡ None
 unagreed w x z e =
     let t = accepted (on_along opens read_open tt (view_of w).state) e in
     ap (λ c. c.agreed_max) (before_open_is z.reached (true_is (is_one_of before_open (view_of w).state) (and_left (is_one_of before_open (view_of w).state) _ t)))
 
 module _ (c : Connection) where
   -- a move, or 20
-  module _ (table : List Move) (a : Answer) (m : Moved) (p : moved_says m ≡ along table (state_says c.local_state)) where
-    moved : (next : ConnectionState) (d : Connection) → m ≡ To next → d ≡ moved_to c next → ReadsBy (λ w. and_then (along table (view_of w).state) (λ x. says a (go x))) c (accept a) d
+  module _ (table : List Move) (a : Answer) (m : Option ConnectionState) (p : moved_says m ≡ along table (state_says c.local_state)) where
+    moved : (next : ConnectionState) (d : Connection) → m ≡ Some next → d ≡ moved_to c next → ReadsBy (λ w. and_then (along table (view_of w).state) (λ x. says a (go x))) c (accept a) d
     moved next d i q t id =
         accepted_reads _ (whole c t id) (whole d t id) a (go (state_says next)) (λ z. then_accept _ _ _ (sym p ∙ ap moved_says i)) (λ z. ap (λ u. view_of (whole u t id)) q)
         (λ z. moved_held c d t id next q z.held) (moved_same c d t id next q)
 
-    unmoved : (v : Verdict Answer) (d : Connection) → m ≡ Illegal → v ≡ refuse 20 → d ≡ c → ReadsBy (λ w. and_then (along table (view_of w).state) (λ x. says a (go x))) c v d
+    unmoved : (v : Verdict Answer) (d : Connection) → m ≡ None → v ≡ refuse 20 → d ≡ c → ReadsBy (λ w. and_then (along table (view_of w).state) (λ x. says a (go x))) c v d
     unmoved v d i r q t id =
         refused_reads _ (whole c t id) (whole d t id) 20 v (λ z. then_refuse _ _ 20 (sym p ∙ ap moved_says i)) r (ap (λ u. whole u t id) q)
 
   -- a header
-  pub amqp_moved : (m : Moved) (next : ConnectionState) (d : Connection) → m ≡ To next → moved_says m ≡ along receive_header (state_says c.local_state) → d ≡ moved_to c next
+  pub amqp_moved : (m : Option ConnectionState) (next : ConnectionState) (d : Connection) → m ≡ Some next → moved_says m ≡ along receive_header (state_says c.local_state) → d ≡ moved_to c next
       → ReadsBy (λ w. headed (view_of w) amqp100) c (accept (header 8)) d
   amqp_moved m next d i p q = moved receive_header (header 8) m p next d i q
 
-  pub amqp_not : (m : Moved) (s : ReceivedHeader) → NoHeaderAs 20 c s → m ≡ Illegal → moved_says m ≡ along receive_header (state_says c.local_state)
+  pub amqp_not : (m : Option ConnectionState) (s : ReceivedHeader) → NoHeaderAs IllegalState c s → m ≡ None → moved_says m ≡ along receive_header (state_says c.local_state)
       → ReadsBy (λ w. headed (view_of w) amqp100) c (header_says s.answer) s.connection
   amqp_not m s r i p = unmoved receive_header (header 8) m p _ _ i (ap header_says r.0) r.1
 
-  pub other_moved : (m : Moved) (next : ConnectionState) (d : Connection) → m ≡ To next → moved_says m ≡ along receive_other_header (state_says c.local_state) → d ≡ moved_to c next
+  pub other_moved : (m : Option ConnectionState) (next : ConnectionState) (d : Connection) → m ≡ Some next → moved_says m ≡ along receive_other_header (state_says c.local_state) → d ≡ moved_to c next
       → ReadsBy (λ w. and_then (along receive_other_header (view_of w).state) (λ x. says (other_protocol 8) (go x))) c (accept (other_protocol 8)) d
   other_moved m next d i p q = moved receive_other_header (other_protocol 8) m p next d i q
 
-  pub other_not : (m : Moved) (s : ReceivedHeader) → NoHeaderAs 20 c s → m ≡ Illegal → moved_says m ≡ along receive_other_header (state_says c.local_state)
+  pub other_not : (m : Option ConnectionState) (s : ReceivedHeader) → NoHeaderAs IllegalState c s → m ≡ None → moved_says m ≡ along receive_other_header (state_says c.local_state)
       → ReadsBy (λ w. and_then (along receive_other_header (view_of w).state) (λ x. says (other_protocol 8) (go x))) c (header_says s.answer) s.connection
   other_not m s r i p = unmoved receive_other_header (other_protocol 8) m p _ _ i (ap header_says r.0) r.1
 
   -- the peer's Close
   module _ (f : Frame) (b : Bool) where
-    pub close_moved : (m : Moved) (next : ConnectionState) (d : Connection) → m ≡ To next → moved_says m ≡ along read_close (state_says c.local_state) → d ≡ moved_to c next
+    pub close_moved : (m : Option ConnectionState) (next : ConnectionState) (d : Connection) → m ≡ Some next → moved_says m ≡ along read_close (state_says c.local_state) → d ≡ moved_to c next
         → ReadsBy (λ w. close_read (view_of w) f b) c (accept (closed f.size b)) d
     close_moved m next d i p q = moved read_close (closed f.size b) m p next d i q
 
-    pub close_not : (m : Moved) (s : ReceivedFrame) → NoFrameAs 20 c s → m ≡ Illegal → moved_says m ≡ along read_close (state_says c.local_state)
+    pub close_not : (m : Option ConnectionState) (s : ReceivedFrame) → NoFrameAs IllegalState c s → m ≡ None → moved_says m ≡ along read_close (state_says c.local_state)
         → ReadsBy (λ w. close_read (view_of w) f b) c (answer_says s.answer) s.connection
     close_not m s r i p = unmoved read_close (closed f.size b) m p _ _ i (ap answer_says r.0) r.1
 
   -- the peer's Open
-  module _ (f : Frame) (size most idle : ℕ) (m : Moved) (p : moved_says m ≡ along read_open (state_says c.local_state)) where
+  module _ (f : Frame) (size most idle : ℕ) (m : Option ConnectionState) (p : moved_says m ≡ along read_open (state_says c.local_state)) where
     pub open_agreed :
-        (next : ConnectionState) (e : Endpoint) → m ≡ To next → e ≡ E.agreed_with size most c.endpoint
+        (next : ConnectionState) (e : Endpoint) → m ≡ Some next → e ≡ E.agreed_with size most c.endpoint
         → ReadsBy (λ w. open_read (settings_of w) (view_of w) f size most idle) c (accept (opened f.size idle)) (record { local_state = next; endpoint = e })
     open_agreed next e i new t id =
         let w = whole c t id in
@@ -331,7 +327,7 @@ module _ (c : Connection) where
         accepted_reads _ w _ _ (agree (state_says next) (min (settings_of w).channel_max most) (clamped size)) (λ z. then_accept _ _ _ r)
         (λ z. g.agrees z.held (unagreed w _ z r) (view_of w).state (state_says next)) (λ z. g.agrees_sound z.held (unagreed w _ z r)) g.agrees_same
 
-    pub open_not : (s : ReceivedFrame) → NoFrameAs 20 c s → m ≡ Illegal → ReadsBy (λ w. open_read (settings_of w) (view_of w) f size most idle) c (answer_says s.answer) s.connection
+    pub open_not : (s : ReceivedFrame) → NoFrameAs IllegalState c s → m ≡ None → ReadsBy (λ w. open_read (settings_of w) (view_of w) f size most idle) c (answer_says s.answer) s.connection
     open_not s r i t id =
         refused_reads _ (whole c t id) _ 20 _ (λ z. then_refuse _ _ 20 (sym p ∙ ap moved_says i)) (ap answer_says r.0) (ap (λ u. whole u t id) r.1)
 
@@ -349,14 +345,18 @@ module _ (c : Connection) where
     abbrev by_kind : Whole → Verdict Outcome
     by_kind w = said_read (role_of w) (settings_of w) (view_of w) f h (performative_says p).0 (performative_says p).1
 
+    told : (e : Option Condition) → is_some e ≡ has_error (condition_says e)
+    told None = refl
+    told (Some c) = refl
+
     pub by_close :
-        (a : Verdict Answer) (d : Connection) (e : Condition) (b : Bool) → p ≡ Close e → b ≡ has_error (condition_says e) → ReadsBy (λ w. close_read (view_of w) f b) c a d → ReadsIn by_kind c t a d t
+        (a : Verdict Answer) (d : Connection) (e : Option Condition) (b : Bool) → p ≡ Close e → b ≡ is_some e → ReadsBy (λ w. close_read (view_of w) f b) c a d → ReadsIn by_kind c t a d t
     by_close a d e b q v r id =
         let w = whole c t id in
         subst (λ k. Reads (said_read (role_of w) (settings_of w) (view_of w) f h (performative_says k).0 (performative_says k).1) w a (whole d t id)) (sym q)
-        (subst (λ x. Reads (close_read (view_of w) f x) w a (whole d t id)) v (r t id))
+        (subst (λ x. Reads (close_read (view_of w) f x) w a (whole d t id)) (v ∙ told e) (r t id))
 
-    pub by_discarding : ((e : Condition) → p ≡ Close e → ⊥) → (b : Bool) → b ≡ is Discarding (state_says c.local_state) → b ≡ true → ReadsIn by_kind c t (accept (nothing_to_do f.size)) c t
+    pub by_discarding : ((e : Option Condition) → p ≡ Close e → ⊥) → (b : Bool) → b ≡ is Discarding (state_says c.local_state) → b ≡ true → ReadsIn by_kind c t (accept (nothing_to_do f.size)) c t
     by_discarding n b e x id =
         accepted_reads (by_kind (whole c t id)) (whole c t id) (whole c t id) _ stay (λ z. rw (not_close p n, sym e, x)) (λ z. refl) (λ z. z.held) (same_all (endpoint_in (whole c t id)))
 
@@ -370,38 +370,31 @@ module _ (c : Connection) where
         (subst (λ b. Reads (cond b (says (nothing_to_do f.size) stay) (open_read (settings_of w) (view_of w) f size most idle)) w a (whole d t id)) (sym x) (r t id))
 
     pub by_session :
-        (t' : List ℕ) (a : Verdict Answer) (d : Connection) → ((e : Condition) → p ≡ Close e → ⊥) → (b : Bool) → b ≡ is Discarding (state_says c.local_state) → b ≡ false
+        (t' : List ℕ) (a : Verdict Answer) (d : Connection) → ((e : Option Condition) → p ≡ Close e → ⊥) → (b : Bool) → b ≡ is Discarding (state_says c.local_state) → b ≡ false
         → ((a b c : ℕ) → p ≡ Open a b c → ⊥)
         → ReadsIn (λ w. session_read (role_of w) (view_of w) f h (performative_says p).0 (performative_says p).1) c t a d t' → ReadsIn by_kind c t a d t'
     by_session t' a d n b e y m r id = subst (λ u. Reads u (whole c t id) a (whole d t' id)) (sym (rw (not_close p n, sym e, y, not_open p m))) (r id)
 
 -- ---- a header that comes
 
-module _ (c : Connection) (s : List ℕ) (r : HeaderRead) (e : H.header_says r ≡ received s) where
-  pub header_amqp : (a : Verdict Answer) (d : Connection) → r ≡ Amqp → ReadsBy (λ w. headed (view_of w) amqp100) c a d → (t id : List ℕ) → Does (receive_header_from s) (whole c t id) a [] (whole d t id)
+module _ (c : Connection) (s : List ℕ) (r : Result HeaderRead Refusal) (e : H.header_says r ≡ received s) where
+  pub header_amqp : (g : HeaderRead) → r ≡ Ok g → (a : Verdict Answer) (d : Connection) → g ≡ Amqp → ReadsBy (λ w. headed (view_of w) amqp100) c a d → (t id : List ℕ) → Does (receive_header_from s) (whole c t id) a [] (whole d t id)
   unfolding H.header_says
-  header_amqp a d p q t id =
+  header_amqp g is a d p q t id =
       let w = whole c t id in
       reads_does (receive_header_from s) w (whole d t id) (headed (view_of w) amqp100) a refl (quiet_headed (view_of w) amqp100)
-      (λ z. then_accept (received s) (headed (view_of w)) amqp100 (sym e ∙ ap H.header_says p)) (q t id)
+      (λ z. then_accept (received s) (headed (view_of w)) amqp100 (sym e ∙ ap H.header_says (is ∙ ap (λ u. Ok u) p))) (q t id)
 
   pub header_other :
-      (h : HeaderStruct) (a : Verdict Answer) (d : Connection) → r ≡ Other h → ReadsBy (λ w. and_then (along receive_other_header (view_of w).state) (λ x. says (other_protocol 8) (go x))) c a d
+      (g : HeaderRead) → r ≡ Ok g → (h : HeaderStruct) (a : Verdict Answer) (d : Connection) → g ≡ Other h → ReadsBy (λ w. and_then (along receive_other_header (view_of w).state) (λ x. says (other_protocol 8) (go x))) c a d
       → (t id : List ℕ) → Does (receive_header_from s) (whole c t id) a [] (whole d t id)
   unfolding H.header_says
-  header_other h a d p q t id =
+  header_other g is h a d p q t id =
       let w = whole c t id in
       reads_does (receive_header_from s) w (whole d t id) (headed (view_of w) (other (H.header_of h))) a refl (quiet_headed (view_of w) (other (H.header_of h)))
-      (λ z. then_accept (received s) (headed (view_of w)) (other (H.header_of h)) (sym e ∙ ap H.header_says p)) (q t id)
+      (λ z. then_accept (received s) (headed (view_of w)) (other (H.header_of h)) (sym e ∙ ap H.header_says (is ∙ ap (λ u. Ok u) p))) (q t id)
 
-  header_not : (k : ℕ) (x : ReceivedHeader) → H.header_says r ≡ refuse k → NoHeaderAs k c x → (t id : List ℕ) → Does (receive_header_from s) (whole c t id) (header_says x.answer) [] (whole x.connection t id)
+  pub header_not : (k : Refusal) (x : ReceivedHeader) → r ≡ Err k → NoHeaderAs k c x → (t id : List ℕ) → Does (receive_header_from s) (whole c t id) (header_says x.answer) [] (whole x.connection t id)
+  unfolding H.header_says
   header_not k x p q t id =
-      refuses (receive_header_from s) (whole c t id) _ k _ [] (λ z. then_refuse (received s) _ k (sym e ∙ p)) (ap header_says q.0) (ap (λ d. whole d t id) q.1) refl
-
-  pub header_malformed : (x : ReceivedHeader) → NoHeaderAs 2 c x → r ≡ Malformed → (t id : List ℕ) → Does (receive_header_from s) (whole c t id) (header_says x.answer) [] (whole x.connection t id)
-  unfolding H.header_says
-  header_malformed x q p = header_not 2 x (ap H.header_says p) q
-
-  pub header_missing : (x : ReceivedHeader) → NoHeaderAs 1 c x → r ≡ Missing → (t id : List ℕ) → Does (receive_header_from s) (whole c t id) (header_says x.answer) [] (whole x.connection t id)
-  unfolding H.header_says
-  header_missing x q p = header_not 1 x (ap H.header_says p) q
+      refuses (receive_header_from s) (whole c t id) _ (number_of k) _ [] (λ z. then_refuse (received s) _ (number_of k) (sym e ∙ ap H.header_says p)) (ap header_says q.0) (ap (λ d. whole d t id) q.1) refl

@@ -9,21 +9,20 @@
 use mathlib.Core.Path.{◌≡◌}
 use mathlib.Core.Bool.{true}
 use mathlib.Core.List.{List, [], ◌∷◌}
-use mathlib.Core.Option.{none, some}
+use Rattle.std.specs.Prelude.{None, Some, Ok}
 use Prim.Native.Nat.{ℕ}
 use contract.Lifetimes.{Lfts}
 use denote.Triple.Clauses.{AtExit}
 use borrow.Fn.Kinds.{ParamKind, ResultKind, Dens, res_t, ended_of, Out}
 use Rattle.octets.specs.Verdict.{Verdict}
 use Rattle.frame_encoder.specs.Frames.{Settings}
-use Rattle.frame_encoder.specs.Answers.{settings, error_text}
+use Rattle.frame_encoder.specs.Answers.{settings_say, error_text}
 use Rattle.connection_model.specs.Connection as M
 use Rattle.connection_model.specs.Connection.{Role, Answer, Call, Seen}
 use Rattle.connection_model.specs.Callers.{is_slice, is_valid}
-use Rattle.endpoint.specs.Answers.{answer_says, sent_says}
+use Rattle.endpoint.specs.Answers.{answer_says, sent_says, allocate_says}
 use Rattle.connection.specs.declared.Connection.{Connection}
-use Rattle.connection.specs.declared.NewConnection.TheVariants.{Made}
-use Rattle.connection.specs.View.{Whole, whole, header_says, tick_says, allocate_says, freed_says}
+use Rattle.connection.specs.View.{Whole, whole, header_says, tick_says, freed_says}
 use Rattle.connection.proofs.Connection.send_header.Reads as SendHeaderReads
 use Rattle.connection.proofs.Connection.send_header.Kinds as SendHeaderKinds
 use Rattle.connection.proofs.Connection.receive_header.Reads as ReceiveHeaderReads
@@ -89,10 +88,10 @@ abbrev pub ReceiveFrame : Type 0
 ReceiveFrame = Returned 2 ReceiveFrameKinds.ps ReceiveFrameKinds.r ReceiveFrameReads.Learnt
 
 abbrev pub Dialler : Type 0
-Dialler = Returned 2 DiallerKinds.ps DiallerKinds.r DiallerReads.Learnt
+Dialler = Returned 3 DiallerKinds.ps DiallerKinds.r DiallerReads.Learnt
 
 abbrev pub Listener : Type 0
-Listener = Returned 2 ListenerKinds.ps ListenerKinds.r ListenerReads.Learnt
+Listener = Returned 3 ListenerKinds.ps ListenerKinds.r ListenerReads.Learnt
 
 -- one call of the code: a method was called, and this is what its caller sees. Where it was lent no tables, or no container-id, these are whatever they are
 pub data Step : Call → Whole → Verdict Answer → List ℕ → Whole → Type 0 where
@@ -103,9 +102,9 @@ pub data Step : Call → Whole → Verdict Answer → List ℕ → Whole → Typ
   send_open_step : (x : SendOpen) (t : List ℕ)
       → Step (M.send_open_to x.args.1.1.0.now) (whole x.args.0 t x.args.1.0.now) (sent_says x.result.answer) x.exits.1.1.0.now (whole x.result.connection t x.args.1.0.now)
   send_close_step : (x : SendClose) (t id : List ℕ)
-      → Step (M.send_close_to none x.args.1.0.now) (whole x.args.0 t id) (sent_says x.result.answer) x.exits.1.0.now (whole x.result.connection t id)
+      → Step (M.send_close_to None x.args.1.0.now) (whole x.args.0 t id) (sent_says x.result.answer) x.exits.1.0.now (whole x.result.connection t id)
   send_close_with_error_step : (x : SendCloseWithError) (t id : List ℕ)
-      → Step (M.send_close_to (some (error_text x.args.1.0.now x.args.1.1.0 x.args.1.1.1.0.now)) x.args.1.1.1.1.0.now) (whole x.args.0 t id) (sent_says x.result.answer) x.exits.1.1.1.1.0.now (whole x.result.connection t id)
+      → Step (M.send_close_to (Some (error_text x.args.1.0.now)) x.args.1.1.0.now) (whole x.args.0 t id) (sent_says x.result.answer) x.exits.1.1.0.now (whole x.result.connection t id)
   tick_step : (x : Tick) (t id : List ℕ)
       → Step (M.tick x.args.1.0.now) (whole x.args.0 t id) (tick_says x.result.answer) x.exits.1.0.now (whole x.result.connection t id)
   allocate_session_step : (x : Allocate) (id : List ℕ)
@@ -124,10 +123,10 @@ pub record Slices (w : Whole) : Type 0 where
 
 -- a connection that a constructor made, with the tables as the constructor left them
 pub data New : Role → Settings → Whole → Type 0 where
-  dialled : (x : Dialler) (c : Connection) → x.result ≡ Made c → Slices (whole c x.exits.1.1.1.1.0.now x.args.0.now)
-      → New M.dialler (settings x.args.0.now x.args.1.0 x.args.1.1.0 x.args.1.1.1.0) (whole c x.exits.1.1.1.1.0.now x.args.0.now)
-  listened : (x : Listener) (c : Connection) → x.result ≡ Made c → Slices (whole c x.exits.1.1.1.1.0.now x.args.0.now)
-      → New M.listener (settings x.args.0.now x.args.1.0 x.args.1.1.0 x.args.1.1.1.0) (whole c x.exits.1.1.1.1.0.now x.args.0.now)
+  dialled : (x : Dialler) (c : Connection) → x.result ≡ Ok c → Slices (whole c x.exits.1.0.now x.args.0.now.container_id.now)
+      → New M.dialler (settings_say x.args.0.now) (whole c x.exits.1.0.now x.args.0.now.container_id.now)
+  listened : (x : Listener) (c : Connection) → x.result ≡ Ok c → Slices (whole c x.exits.1.0.now x.args.0.now.container_id.now)
+      → New M.listener (settings_say x.args.0.now) (whole c x.exits.1.0.now x.args.0.now.container_id.now)
 
 -- a list of calls, each given the connection that the last one gave back, with its tables and its container-id
 pub data Runs : List Call → Whole → List Seen → Whole → Type 0 where

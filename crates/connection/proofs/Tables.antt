@@ -3,26 +3,25 @@
 use mathlib.Core.Path.{◌≡◌, refl, sym, ◌∙◌, ap, subst}
 use mathlib.Core.Bool.{Bool, true, false, not}
 use mathlib.Core.List.{List, []}
+use Rattle.std.specs.Prelude.{Option, Some, Result, Ok, Err}
 use Prim.Native.Nat.{ℕ, suc, ◌≤◌, ◌<◌}
 use native.Mathlib.Omega.{arith}
 use lib.ListN.{length}
 use Rattle.octets.specs.Verdict.{Verdict, refuse, accept, and_then}
 use Rattle.octets.specs.Output.{room_for}
-use Rattle.octets.specs.declared.Written.TheVariants.{Refused as NotWritten}
+use Rattle.octets.specs.Refusal.{number_of}
+use Rattle.octets.specs.declared.Refusal.{Refusal}
+use Rattle.octets.specs.declared.Refusal.TheVariants.{OutOfBounds, NoRoom, Stopped}
 use Rattle.octets.proofs.Laws.{require_on, require_off, then_refuse, room_yes, room_no}
 use Rattle.performatives.specs.Answers.{performative_says}
 use Rattle.performatives.specs.declared.Performative.{Performative}
 use Rattle.frame_decoder.specs.Frame.{Frame, read_frame}
 use Rattle.frame_decoder.specs.Answers.{frame_says, frame_answer}
 use Rattle.frame_decoder.specs.declared.Frame as F
-use Rattle.frame_decoder.specs.declared.Frame.TheVariants.{Refused as NotRead, Empty, Body}
+use Rattle.frame_decoder.specs.declared.Frame.TheVariants.{Empty, Body}
 use Rattle.connection_state.specs.States.{is_one_of, stopped}
 use Rattle.connection_state.specs.Answers.{state_says}
 use Rattle.channels.specs.Places.{covers}
-use Rattle.channels.specs.declared.Held.{Held}
-use Rattle.channels.specs.declared.Held.TheVariants.{Handle}
-use Rattle.channels.specs.declared.Allocated.{Allocated}
-use Rattle.channels.specs.declared.Allocated.TheVariants.{Channel}
 use Rattle.connection_model.specs.Connection as M
 use Rattle.connection_model.specs.Connection.{Answer, receive_frame, send_session_frame, allocate, deallocate, says, stay, given, released, frame_read, decide}
 use Rattle.endpoint.specs.declared.Endpoint.{Endpoint}
@@ -34,8 +33,6 @@ use Rattle.connection.specs.declared.Connection.{Connection}
 use Rattle.connection.specs.declared.Sent.{Sent}
 use Rattle.connection.specs.declared.ReceivedFrame.{ReceivedFrame}
 use Rattle.connection.specs.declared.AllocatedSession.{AllocatedSession}
-use Rattle.connection.specs.declared.AllocateAnswer.TheVariants.{Refused as NoChannel}
-use Rattle.connection.specs.View.{allocate_says as channel_says}
 use Rattle.connection.specs.View.{whole, endpoint_in, role_of, settings_of, view_of}
 use Rattle.connection.specs.Promises.{Does, DoesIn, ReadsIn, bare_says, said_read}
 use Rattle.connection.proofs.Calls.{comes_to, does, refuses, covered_does, roomless_does, uncovered_refuses, standing, stepped, reads_does, accepted_reads}
@@ -43,43 +40,40 @@ use Rattle.connection.proofs.Reading.{answer_refused, body_comes, empty_comes, q
 
 -- ---- arms
 
-pub handed_out : (a : Allocated) (k : ℕ) → a ≡ Channel k → accept (M.channel k) ≡ allocate_says a
-handed_out a k e = sym (ap allocate_says e)
-
-pub handed_back : (a : Held) (h : ℕ) → a ≡ Handle h → accept (M.freed h) ≡ deallocate_says a
+pub handed_back : (a : Option ℕ) (h : ℕ) → a ≡ Some h → accept (M.freed h) ≡ deallocate_says a
 handed_back a h e = sym (ap deallocate_says e)
 
 -- a frame's channel has a place
 pub channel_low :
-    (limit highest most : ℕ) (s : List ℕ) (r : F.Frame) (ch size from end : ℕ) (p : Performative) → r ≡ Body ch size from p end → frame_says r ≡ frame_answer limit highest s → highest ≡ most → ch < suc most
-channel_low limit highest most s r ch size from end p q e m =
-    let l : ch ≤ highest = body_channel limit highest s ch size from end p (sym (ap frame_says q) ∙ e) in omega arith
+    (limit highest most : ℕ) (s : List ℕ) (r : Result F.Frame Refusal) (g : F.Frame) (ch size from end : ℕ) (p : Performative) → r ≡ Ok g → g ≡ Body ch size from p end → frame_says r ≡ frame_answer limit highest s → highest ≡ most → ch < suc most
+channel_low limit highest most s r g ch size from end p o q e m =
+    let l : ch ≤ highest = body_channel limit highest s ch size from end p (sym (ap frame_says (o ∙ ap (λ x. Ok x) q)) ∙ e) in omega arith
 
 -- the same connection with another endpoint
 abbrev pub holding : Connection → Endpoint → Connection
 holding c e = record { local_state = c.local_state; endpoint = e }
 
 -- it was refused, and the connection is as it was
-abbrev pub NoChannelAs : ℕ → Connection → AllocatedSession → Type 0
-NoChannelAs k c s = (s.answer ≡ NoChannel k) × (s.connection ≡ c)
+abbrev pub NoChannelAs : Refusal → Connection → AllocatedSession → Type 0
+NoChannelAs k c s = (s.answer ≡ Err k) × (s.connection ≡ c)
 
-abbrev pub NotSentAs : ℕ → Connection → Sent → Type 0
-NotSentAs k c s = (s.answer ≡ NotWritten k) × (s.connection ≡ c)
+abbrev pub NotSentAs : Refusal → Connection → Sent → Type 0
+NotSentAs k c s = (s.answer ≡ Err k) × (s.connection ≡ c)
 
 module _ (c : Connection) (t : List ℕ) where
   -- ---- allocate and deallocate
 
   pub allocate_short :
-      (h : ℕ) (b : Bool) (x : AllocatedSession) → b ≡ covers (places_of c.endpoint) t → b ≡ false → NoChannelAs 8 c x
-      → (id : List ℕ) → DoesIn (allocate h) (whole c t id) (channel_says x.answer) [] (whole x.connection t id)
-  allocate_short h b x e n q id = uncovered_refuses (allocate h) (whole c t id) _ _ [] refl (sym e ∙ n) (ap channel_says q.0) (ap (λ d. whole d t id) q.1) refl
+      (h : ℕ) (b : Bool) (x : AllocatedSession) → b ≡ covers (places_of c.endpoint) t → b ≡ false → NoChannelAs OutOfBounds c x
+      → (id : List ℕ) → DoesIn (allocate h) (whole c t id) (allocate_says x.answer) [] (whole x.connection t id)
+  allocate_short h b x e n q id = uncovered_refuses (allocate h) (whole c t id) _ _ [] refl (sym e ∙ n) (ap allocate_says q.0) (ap (λ d. whole d t id) q.1) refl
 
   pub allocate_stopped :
-      (h : ℕ) (b a : Bool) (x : AllocatedSession) → b ≡ covers (places_of c.endpoint) t → b ≡ true → a ≡ is_one_of stopped (state_says c.local_state) → a ≡ true → NoChannelAs 22 c x
-      → (id : List ℕ) → DoesIn (allocate h) (whole c t id) (channel_says x.answer) [] (whole x.connection t id)
+      (h : ℕ) (b a : Bool) (x : AllocatedSession) → b ≡ covers (places_of c.endpoint) t → b ≡ true → a ≡ is_one_of stopped (state_says c.local_state) → a ≡ true → NoChannelAs Stopped c x
+      → (id : List ℕ) → DoesIn (allocate h) (whole c t id) (allocate_says x.answer) [] (whole x.connection t id)
   allocate_stopped h b a x e y p u q id =
       covered_does (allocate h) (whole c t id) _ _ [] refl (sym e ∙ y)
-      (refuses (allocate h) (whole c t id) _ 22 _ [] (λ z. require_off 22 _ _ (ap not (sym p ∙ u))) (ap channel_says q.0) (ap (λ d. whole d t id) q.1) refl)
+      (refuses (allocate h) (whole c t id) _ 22 _ [] (λ z. require_off 22 _ _ (ap not (sym p ∙ u))) (ap allocate_says q.0) (ap (λ d. whole d t id) q.1) refl)
 
   pub allocates :
       (h : ℕ) (b a : Bool) (v r : Verdict Answer) (e : Endpoint) (t' : List ℕ) → b ≡ covers (places_of c.endpoint) t → b ≡ true → a ≡ is_one_of stopped (state_says c.local_state) → a ≡ false
@@ -109,7 +103,7 @@ module _ (c : Connection) (t : List ℕ) where
 
   module _ (s out : List ℕ) where
     pub send_9 :
-        (x : Sent) → length out < 16384 → NotSentAs 9 c x
+        (x : Sent) → length out < 16384 → NotSentAs NoRoom c x
         → (id : List ℕ) → DoesIn (send_session_frame s out) (whole c t id) (sent_says x.answer) out (whole x.connection t id)
     send_9 x l q id =
         let n : room_for 0 out ≡ false = room_no 0 out (omega arith) in
@@ -117,7 +111,7 @@ module _ (c : Connection) (t : List ℕ) where
         (refuses (send_session_frame s out) (whole c t id) _ 9 _ out (λ z. require_off 9 _ _ n) (ap sent_says q.0) (ap (λ d. whole d t id) q.1) refl)
 
     pub send_short :
-        (b : Bool) (x : Sent) → 16384 ≤ length out → b ≡ covers (places_of c.endpoint) t → b ≡ false → NotSentAs 8 c x
+        (b : Bool) (x : Sent) → 16384 ≤ length out → b ≡ covers (places_of c.endpoint) t → b ≡ false → NotSentAs OutOfBounds c x
         → (id : List ℕ) → DoesIn (send_session_frame s out) (whole c t id) (sent_says x.answer) out (whole x.connection t id)
     send_short b x l e n q id = uncovered_refuses (send_session_frame s out) (whole c t id) _ _ out (room_yes 0 out (omega arith)) (sym e ∙ n) (ap sent_says q.0) (ap (λ d. whole d t id) q.1) refl
 
@@ -135,36 +129,42 @@ module _ (c : Connection) (t : List ℕ) where
   -- ---- a frame that comes
 
   pub frame_short :
-      (s : List ℕ) (h : ℕ) (b : Bool) (x : ReceivedFrame) → b ≡ covers (places_of c.endpoint) t → b ≡ false → NoFrameAs 8 c x
+      (s : List ℕ) (h : ℕ) (b : Bool) (x : ReceivedFrame) → b ≡ covers (places_of c.endpoint) t → b ≡ false → NoFrameAs OutOfBounds c x
       → (id : List ℕ) → DoesIn (receive_frame s h) (whole c t id) (answer_says x.answer) [] (whole x.connection t id)
   frame_short s h b x e n q id = uncovered_refuses (receive_frame s h) (whole c t id) _ _ [] refl (sym e ∙ n) (ap answer_says q.0) (ap (λ d. whole d t id) q.1) refl
 
-  module _ (s : List ℕ) (h : ℕ) (b : Bool) (k : b ≡ covers (places_of c.endpoint) t) (y : b ≡ true) (limit highest : ℕ) (l : limit ≡ c.endpoint.reading_limit) (m : highest ≡ c.endpoint.local_open.channel_max) (r : F.Frame) (e : frame_says r ≡ frame_answer limit highest s) where
+  module _ (s : List ℕ) (h : ℕ) (b : Bool) (k : b ≡ covers (places_of c.endpoint) t) (y : b ≡ true) (limit highest : ℕ) (l : limit ≡ c.endpoint.reading_limit) (m : highest ≡ c.endpoint.local_open.channel_max) (r : Result F.Frame Refusal) (e : frame_says r ≡ frame_answer limit highest s) where
     read_as : (id : List ℕ) → and_then (read_frame limit highest s) (frame_read (role_of (whole c t id)) (settings_of (whole c t id)) (view_of (whole c t id)) h) ≡ comes_to (whole c t id) (receive_frame s h)
     read_as id = λ i. and_then (read_frame (l i) (m i) s) (frame_read (role_of (whole c t id)) (settings_of (whole c t id)) (view_of (whole c t id)) h)
 
-    by_frame : (x : F.Frame) → r ≡ x → (a : Verdict Answer) → ((ch size from : ℕ) (p : Performative) (end : ℕ) → x ≡ Body ch size from p end → ⊥) → a ≡ bare_says x → (id : List ℕ) → Does (receive_frame s h) (whole c t id) a [] (whole c t id)
-    by_frame (NotRead j) p a o q id =
-        refuses (receive_frame s h) (whole c t id) _ j a [] (λ z. sym (read_as id) ∙ then_refuse _ _ j (answer_refused limit highest s j (sym (ap frame_says p) ∙ e))) q refl refl
-    by_frame (Empty ch size from) p a o q id =
-        let w = whole c t id in
-        subst (λ d. Does (receive_frame s h) w d [] w) (sym q)
-        (reads_does (receive_frame s h) w w (says (M.nothing_to_do size) stay) (accept (M.nothing_to_do size)) refl (quiet_nothing size)
-        (λ z. sym (read_as id) ∙ empty_comes limit highest s ch size from (role_of w) (settings_of w) (view_of w) h (sym (ap frame_says p) ∙ e))
-        (accepted_reads (says (M.nothing_to_do size) stay) w w _ stay (λ z. refl) (λ z. refl) (λ z. z.held) (same_all (endpoint_in w))))
-    by_frame (Body ch size from p end) q a o w id = absurd (o ch size from p end refl)
+    -- it is refused
+    pub unread : (k : Refusal) (x : ReceivedFrame) → r ≡ Err k → NoFrameAs k c x → (id : List ℕ) → DoesIn (receive_frame s h) (whole c t id) (answer_says x.answer) [] (whole x.connection t id)
+    unread j x p q id =
+        covered_does (receive_frame s h) (whole c t id) _ _ [] refl (sym k ∙ y)
+        (refuses (receive_frame s h) (whole c t id) _ (number_of j) _ [] (λ z. sym (read_as id) ∙ then_refuse _ _ (number_of j) (answer_refused limit highest s (number_of j) (sym (ap frame_says p) ∙ e))) (ap answer_says q.0) (ap (λ d. whole d t id) q.1) refl)
 
-    -- it is refused, or there is nothing to do
-    pub bare : (a : Verdict Answer) → ((ch size from : ℕ) (p : Performative) (end : ℕ) → r ≡ Body ch size from p end → ⊥) → a ≡ bare_says r → (id : List ℕ) → DoesIn (receive_frame s h) (whole c t id) a [] (whole c t id)
-    bare a o q id = covered_does (receive_frame s h) (whole c t id) _ a [] refl (sym k ∙ y) (by_frame r refl a o q id)
+    module _ (g : F.Frame) (is : r ≡ Ok g) where
+      by_frame : (x : F.Frame) → g ≡ x → ((ch size from : ℕ) (p : Performative) (end : ℕ) → x ≡ Body ch size from p end → ⊥) → (id : List ℕ) → Does (receive_frame s h) (whole c t id) (accept (bare_says x)) [] (whole c t id)
+      by_frame (Empty ch size from) p o id =
+          let w = whole c t id in
+          reads_does (receive_frame s h) w w (says (M.nothing_to_do size) stay) (accept (M.nothing_to_do size)) refl (quiet_nothing size)
+          (λ z. sym (read_as id) ∙ empty_comes limit highest s ch size from (role_of w) (settings_of w) (view_of w) h (sym (ap frame_says (is ∙ ap (λ u. Ok u) p)) ∙ e))
+          (accepted_reads (says (M.nothing_to_do size) stay) w w _ stay (λ z. refl) (λ z. refl) (λ z. z.held) (same_all (endpoint_in w)))
+      by_frame (Body ch size from p end) q o id = absurd (o ch size from p end refl)
 
-    -- it has a performative
-    pub bodied :
-        (ch size from end : ℕ) (p : Performative) (f : Frame) (a : Verdict Answer) (d : Connection) (t' : List ℕ) → r ≡ Body ch size from p end → f ≡ record { size = size; channel = ch; from = from }
-        → ReadsIn (λ w. said_read (role_of w) (settings_of w) (view_of w) f h (performative_says p).0 (performative_says p).1) c t a d t'
-        → (id : List ℕ) → DoesIn (receive_frame s h) (whole c t id) a [] (whole d t' id)
-    bodied ch size from end p f a d t' q g u id =
-        let w = whole c t id in
-        covered_does (receive_frame s h) w _ a [] refl (sym k ∙ y)
-        (reads_does (receive_frame s h) w (whole d t' id) _ a refl (quiet_said (role_of w) (settings_of w) (view_of w) f h (performative_says p).0 (performative_says p).1)
-        (λ z. sym (read_as id) ∙ body_comes limit highest s ch size from end p (sym (ap frame_says q) ∙ e) (role_of w) (settings_of w) (view_of w) h f g) (u id))
+      -- there is nothing to do
+      pub bare : (a : Answer) → ((ch size from : ℕ) (p : Performative) (end : ℕ) → g ≡ Body ch size from p end → ⊥) → a ≡ bare_says g → (id : List ℕ) → DoesIn (receive_frame s h) (whole c t id) (accept a) [] (whole c t id)
+      bare a o q id =
+          subst (λ d. DoesIn (receive_frame s h) (whole c t id) (accept d) [] (whole c t id)) (sym q)
+          (covered_does (receive_frame s h) (whole c t id) _ (accept (bare_says g)) [] refl (sym k ∙ y) (by_frame g refl o id))
+
+      -- it has a performative
+      pub bodied :
+          (ch size from end : ℕ) (p : Performative) (f : Frame) (a : Verdict Answer) (d : Connection) (t' : List ℕ) → g ≡ Body ch size from p end → f ≡ record { size = size; channel = ch; from = from }
+          → ReadsIn (λ w. said_read (role_of w) (settings_of w) (view_of w) f h (performative_says p).0 (performative_says p).1) c t a d t'
+          → (id : List ℕ) → DoesIn (receive_frame s h) (whole c t id) a [] (whole d t' id)
+      bodied ch size from end p f a d t' q g' u id =
+          let w = whole c t id in
+          covered_does (receive_frame s h) w _ a [] refl (sym k ∙ y)
+          (reads_does (receive_frame s h) w (whole d t' id) _ a refl (quiet_said (role_of w) (settings_of w) (view_of w) f h (performative_says p).0 (performative_says p).1)
+          (λ z. sym (read_as id) ∙ body_comes limit highest s ch size from end p (sym (ap frame_says (is ∙ ap (λ x. Ok x) q)) ∙ e) (role_of w) (settings_of w) (view_of w) h f g') (u id))

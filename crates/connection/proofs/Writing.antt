@@ -3,16 +3,16 @@
 use mathlib.Core.Path.{◌≡◌, refl, sym, ◌∙◌, ap, subst}
 use mathlib.Core.Bool.{Bool, true, false, cond}
 use mathlib.Core.List.{List, []}
-use mathlib.Core.Option.{Option, none, some}
+use Rattle.std.specs.Prelude.{Option, None, Some, Result, Ok, Err}
 use Prim.Native.Nat.{ℕ, ◌≤◌, ◌<◌}
 use native.Mathlib.Omega.{arith}
 use lib.ListN.{length}
 use Rattle.octets.specs.Verdict.{Verdict, refuse, accept, require, and_then}
 use Rattle.octets.specs.Octets.{bytes_of}
-use Rattle.octets.specs.Output as O
 use Rattle.octets.specs.Output.{room_for, laid, counted, Wrote}
-use Rattle.octets.specs.declared.Written.{Written}
-use Rattle.octets.specs.declared.Written.TheVariants.{Bytes, Refused}
+use Rattle.octets.specs.Refusal.{number_of, judged}
+use Rattle.octets.specs.declared.Refusal.{Refusal}
+use Rattle.octets.specs.declared.Refusal.TheVariants.{OutOfBounds, NoRoom, IllegalState}
 use Rattle.octets.proofs.Laws.{require_on, require_off, then_accept, then_refuse, room_yes, room_no}
 use Rattle.protocol_header.specs.declared.ProtocolHeader.{ProtocolHeader}
 use Rattle.protocol_header.specs.Answers.{header_of}
@@ -22,8 +22,6 @@ use Rattle.connection_state.specs.States.{State, End, is, is_one_of, along, send
 use Rattle.connection_model.specs.Connection as M
 use Rattle.connection_model.specs.Connection.{Answer, Outcome, Call, send_header_to, send_open_to, send_close_to, tick, lent, go, stay, says, stop, writes, wrote, answered, after, written, closes, ticked}
 use Rattle.connection_state.specs.declared.ConnectionState.{ConnectionState}
-use Rattle.connection_state.specs.declared.Moved.{Moved}
-use Rattle.connection_state.specs.declared.Moved.TheVariants.{To, Illegal}
 use Rattle.connection_state.specs.Answers.{state_says, moved_says}
 use Rattle.local_open.specs.declared.LocalOpen.{LocalOpen}
 use Rattle.local_open.specs.Settings.{allowed, open_says}
@@ -75,8 +73,8 @@ close_written e limit out r o = frame_written _ limit _ out r o
 -- ---- the steps of such a call
 
 -- it was refused, and the connection is as it was
-abbrev pub Refusal : ℕ → Connection → Sent → Type 0
-Refusal k c s = (s.answer ≡ Refused k) × (s.connection ≡ c)
+abbrev pub NotSent : Refusal → Connection → Sent → Type 0
+NotSent k c s = (s.answer ≡ Err k) × (s.connection ≡ c)
 
 -- with what is lent to it
 module _ (t id : List ℕ) where
@@ -107,49 +105,49 @@ module _ (t id : List ℕ) where
           comes : Sound (whole c t id) → comes_to (whole c t id) call ≡ and_then v (λ b. writes b (go (state_says next)))
           comes z = e ∙ require_on 9 _ _ has_room_lem ∙ require_on 8 _ _ fine ∙ then_accept to _ _ legal ∙ ap (λ u. and_then u (λ b. writes b (go (state_says next)))) (sym (same z))
 
-          by_answer : (answer : Written) (out : List ℕ) (u : Verdict (List ℕ)) → v ≡ u → Wrote u answer (lent call) out → Does call (whole c t id) (sent_says answer) out (whole (moved_if answer c next) t id)
-          unfolding O.written counted laid and_then
-          by_answer (Bytes n) out (refuse k) p r = apart (cc)
-          by_answer (Bytes n) out (accept b) p r =
+          by_answer : (answer : Result ℕ Refusal) (out : List ℕ) (u : Verdict (List ℕ)) → v ≡ u → Wrote u answer (lent call) out → Does call (whole c t id) (sent_says answer) out (whole (moved_if answer c next) t id)
+          unfolding counted laid and_then
+          by_answer (Ok n) out (refuse k) p r = apart (cc)
+          by_answer (Ok n) out (accept b) p r =
               let q : n ≡ length b = cc in
               does call _ _ (writes b (go (state_says next))) (accept (wrote n)) out (λ z. comes z ∙ ap (λ u. and_then u (λ b. writes b (go (state_says next)))) p)
               (λ z. ap (λ m. accept (wrote m)) q) (λ z. r.output) (λ z. refl) (λ z. z.held) (same_all (endpoint_in (whole c t id))) (λ k f. apart (cc))
-          by_answer (Refused k) out (refuse j) p r =
-              let q : j ≡ k = cc in
-              refuses call _ _ k (refuse k) out (λ z. comes z ∙ ap (λ u. and_then u (λ b. writes b (go (state_says next)))) p ∙ ap refuse q) refl refl r.output
-          by_answer (Refused k) out (accept b) p r = apart (cc)
+          by_answer (Err k) out (refuse j) p r =
+              let q : j ≡ number_of k = cc in
+              refuses call _ _ (number_of k) (refuse (number_of k)) out (λ z. comes z ∙ ap (λ u. and_then u (λ b. writes b (go (state_says next)))) p ∙ ap refuse q) refl refl r.output
+          by_answer (Err k) out (accept b) p r = apart (cc)
 
-          pub moves : (answer : Written) (out : List ℕ) (d : Connection) → Wrote v answer (lent call) out → d ≡ moved_if answer c next → Does call (whole c t id) (sent_says answer) out (whole d t id)
+          pub moves : (answer : Result ℕ Refusal) (out : List ℕ) (d : Connection) → Wrote v answer (lent call) out → d ≡ moved_if answer c next → Does call (whole c t id) (sent_says answer) out (whole d t id)
           moves answer out d r q = subst (λ u. Does call (whole c t id) (sent_says answer) out (whole u t id)) (sym q) (by_answer answer out v refl r)
 
         -- as the calls find it: a move or none, and what was answered
-        pub not_legal : (m : Moved) (s : Sent) → Refusal 20 c s → m ≡ Illegal → moved_says m ≡ to → Does call (whole c t id) (sent_says s.answer) (lent call) (whole s.connection t id)
+        pub not_legal : (m : Option ConnectionState) (s : Sent) → NotSent IllegalState c s → m ≡ None → moved_says m ≡ to → Does call (whole c t id) (sent_says s.answer) (lent call) (whole s.connection t id)
         not_legal m s r i p = illegal s.connection (sent_says s.answer) (ap sent_says r.0) r.1 (sym p ∙ ap moved_says i)
 
         pub sent :
-            (m : Moved) (next : ConnectionState) (v : Verdict (List ℕ)) (answer : Written) (out : List ℕ) (d : Connection) → m ≡ To next → moved_says m ≡ to → (Sound (whole c t id) → v ≡ bytes)
+            (m : Option ConnectionState) (next : ConnectionState) (v : Verdict (List ℕ)) (answer : Result ℕ Refusal) (out : List ℕ) (d : Connection) → m ≡ Some next → moved_says m ≡ to → (Sound (whole c t id) → v ≡ bytes)
             → Wrote v answer (lent call) out → d ≡ moved_if answer c next → Does call (whole c t id) (sent_says answer) out (whole d t id)
         sent m next v answer out d i p same r q = moves next (sym p ∙ ap moved_says i) v same answer out d r q
 
 -- ---- call by call
 
 module _ (c : Connection) (out : List ℕ) where
-  pub header_9 : (s : Sent) → Refusal 9 c s → length out < 16384 → (t id : List ℕ) → Does (send_header_to out) (whole c t id) (sent_says s.answer) out (whole s.connection t id)
+  pub header_9 : (s : Sent) → NotSent NoRoom c s → length out < 16384 → (t id : List ℕ) → Does (send_header_to out) (whole c t id) (sent_says s.answer) out (whole s.connection t id)
   header_9 s r l t id = no_room t id (send_header_to out) c true _ _ (header_sending (whole c t id) out) s.connection _ (ap sent_says r.0) r.1 l
 
-  pub open_9 : (id : List ℕ) (s : Sent) → Refusal 9 c s → length out < 16384 → (t : List ℕ) → Does (send_open_to out) (whole c t id) (sent_says s.answer) out (whole s.connection t id)
+  pub open_9 : (id : List ℕ) (s : Sent) → NotSent NoRoom c s → length out < 16384 → (t : List ℕ) → Does (send_open_to out) (whole c t id) (sent_says s.answer) out (whole s.connection t id)
   open_9 id s r l t = no_room t id (send_open_to out) c true _ _ (open_sending (whole c t id) out) s.connection _ (ap sent_says r.0) r.1 l
 
-  pub close_9 : (e : Option ErrorText) (s : Sent) → Refusal 9 c s → length out < 16384 → (t id : List ℕ) → Does (send_close_to e out) (whole c t id) (sent_says s.answer) out (whole s.connection t id)
+  pub close_9 : (e : Option ErrorText) (s : Sent) → NotSent NoRoom c s → length out < 16384 → (t id : List ℕ) → Does (send_close_to e out) (whole c t id) (sent_says s.answer) out (whole s.connection t id)
   close_9 e s r l t id = no_room t id (send_close_to e out) c _ _ _ (close_sending (whole c t id) e out) s.connection _ (ap sent_says r.0) r.1 l
 
   module _ (l : 16384 ≤ length out) where
-    pub header_20 : (m : Moved) (s : Sent) → Refusal 20 c s → m ≡ Illegal → moved_says m ≡ along send_header (state_says c.local_state)
+    pub header_20 : (m : Option ConnectionState) (s : Sent) → NotSent IllegalState c s → m ≡ None → moved_says m ≡ along send_header (state_says c.local_state)
         → (t id : List ℕ) → Does (send_header_to out) (whole c t id) (sent_says s.answer) out (whole s.connection t id)
     header_20 m s r i p t id = not_legal t id (send_header_to out) c true _ _ (header_sending (whole c t id) out) l refl m s r i p
 
     pub header_sent_is :
-        (m : Moved) (next : ConnectionState) (h : ProtocolHeader) (answer : Written) (out' : List ℕ) (d : Connection) → m ≡ To next → moved_says m ≡ along send_header (state_says c.local_state)
+        (m : Option ConnectionState) (next : ConnectionState) (h : ProtocolHeader) (answer : Result ℕ Refusal) (out' : List ℕ) (d : Connection) → m ≡ Some next → moved_says m ≡ along send_header (state_says c.local_state)
         → header_of h ≡ version100 0 → Wrote (write_header (header_of h) out) answer out out' → d ≡ moved_if answer c next
         → (t id : List ℕ) → Does (send_header_to out) (whole c t id) (sent_says answer) out' (whole d t id)
     header_sent_is m next h answer out' d i p v r q t id =
@@ -157,46 +155,46 @@ module _ (c : Connection) (out : List ℕ) where
         (λ z. ap (λ x. write_header x out) v ∙ header_written out (room_yes 0 out (omega arith))) r q
 
     module _ (id : List ℕ) where
-      pub open_20 : (m : Moved) (s : Sent) → Refusal 20 c s → m ≡ Illegal → moved_says m ≡ along send_open (state_says c.local_state)
+      pub open_20 : (m : Option ConnectionState) (s : Sent) → NotSent IllegalState c s → m ≡ None → moved_says m ≡ along send_open (state_says c.local_state)
           → (t : List ℕ) → Does (send_open_to out) (whole c t id) (sent_says s.answer) out (whole s.connection t id)
       open_20 m s r i p t = not_legal t id (send_open_to out) c true _ _ (open_sending (whole c t id) out) l refl m s r i p
 
       -- with settings beyond their limits, which no sound connection has, the writer refuses
       pub open_sent :
-          (m : Moved) (next : ConnectionState) (o : LocalOpen) (limit : ℕ) (answer : Written) (out' : List ℕ) (d : Connection) → m ≡ To next → moved_says m ≡ along send_open (state_says c.local_state)
+          (m : Option ConnectionState) (next : ConnectionState) (o : LocalOpen) (limit : ℕ) (answer : Result ℕ Refusal) (out' : List ℕ) (d : Connection) → m ≡ Some next → moved_says m ≡ along send_open (state_says c.local_state)
           → o ≡ c.endpoint.local_open → limit ≡ c.endpoint.writing_limit → Wrote (write_open (open_says id o) limit out) answer out out' → d ≡ moved_if answer c next
           → (t : List ℕ) → Does (send_open_to out) (whole c t id) (sent_says answer) out' (whole d t id)
       open_sent m next o limit answer out' d i p s w r q t =
           sent t id (send_open_to out) c true _ _ (open_sending (whole c t id) out) l refl m next (write_open (open_says id o) limit out) answer out' d i p
           (λ z. (λ j. write_open (open_says id (s j)) (w j) out) ∙ open_written (settings_of (whole c t id)) c.endpoint.writing_limit out (room_yes 0 out (omega arith)) z.fine) r q
 
-    pub close_20 : (m : Moved) (s : Sent) → Refusal 20 c s → m ≡ Illegal → moved_says m ≡ along send_close (state_says c.local_state)
-        → (t id : List ℕ) → Does (send_close_to none out) (whole c t id) (sent_says s.answer) out (whole s.connection t id)
-    close_20 m s r i p t id = not_legal t id (send_close_to none out) c true _ _ (close_sending (whole c t id) none out) l refl m s r i p
+    pub close_20 : (m : Option ConnectionState) (s : Sent) → NotSent IllegalState c s → m ≡ None → moved_says m ≡ along send_close (state_says c.local_state)
+        → (t id : List ℕ) → Does (send_close_to None out) (whole c t id) (sent_says s.answer) out (whole s.connection t id)
+    close_20 m s r i p t id = not_legal t id (send_close_to None out) c true _ _ (close_sending (whole c t id) None out) l refl m s r i p
 
     pub close_sent :
-        (m : Moved) (next : ConnectionState) (limit : ℕ) (answer : Written) (out' : List ℕ) (d : Connection) → m ≡ To next → moved_says m ≡ along send_close (state_says c.local_state)
-        → limit ≡ c.endpoint.writing_limit → Wrote (write_close none limit out) answer out out' → d ≡ moved_if answer c next
-        → (t id : List ℕ) → Does (send_close_to none out) (whole c t id) (sent_says answer) out' (whole d t id)
+        (m : Option ConnectionState) (next : ConnectionState) (limit : ℕ) (answer : Result ℕ Refusal) (out' : List ℕ) (d : Connection) → m ≡ Some next → moved_says m ≡ along send_close (state_says c.local_state)
+        → limit ≡ c.endpoint.writing_limit → Wrote (write_close None limit out) answer out out' → d ≡ moved_if answer c next
+        → (t id : List ℕ) → Does (send_close_to None out) (whole c t id) (sent_says answer) out' (whole d t id)
     close_sent m next limit answer out' d i p w r q t id =
-        sent t id (send_close_to none out) c true _ _ (close_sending (whole c t id) none out) l refl m next (write_close none limit out) answer out' d i p
-        (λ z. ap (λ n. write_close none n out) w ∙ close_written none c.endpoint.writing_limit out (room_yes 0 out (omega arith)) refl) r q
+        sent t id (send_close_to None out) c true _ _ (close_sending (whole c t id) None out) l refl m next (write_close None limit out) answer out' d i p
+        (λ z. ap (λ n. write_close None n out) w ∙ close_written None c.endpoint.writing_limit out (room_yes 0 out (omega arith)) refl) r q
 
     module _ (e : ErrorText) (b : Bool) (ok : b ≡ error_ok e) where
-      pub error_8 : (s : Sent) → Refusal 8 c s → b ≡ false → (t id : List ℕ) → Does (send_close_to (some e) out) (whole c t id) (sent_says s.answer) out (whole s.connection t id)
-      error_8 s r f t id = not_ok t id (send_close_to (some e) out) c _ _ _ (close_sending (whole c t id) (some e) out) l s.connection _ (ap sent_says r.0) r.1 (sym ok ∙ f)
+      pub error_8 : (s : Sent) → NotSent OutOfBounds c s → b ≡ false → (t id : List ℕ) → Does (send_close_to (Some e) out) (whole c t id) (sent_says s.answer) out (whole s.connection t id)
+      error_8 s r f t id = not_ok t id (send_close_to (Some e) out) c _ _ _ (close_sending (whole c t id) (Some e) out) l s.connection _ (ap sent_says r.0) r.1 (sym ok ∙ f)
 
-      pub error_20 : (m : Moved) (s : Sent) → Refusal 20 c s → b ≡ true → m ≡ Illegal → moved_says m ≡ along send_close_with_error (state_says c.local_state)
-          → (t id : List ℕ) → Does (send_close_to (some e) out) (whole c t id) (sent_says s.answer) out (whole s.connection t id)
-      error_20 m s r g i p t id = not_legal t id (send_close_to (some e) out) c _ _ _ (close_sending (whole c t id) (some e) out) l (sym ok ∙ g) m s r i p
+      pub error_20 : (m : Option ConnectionState) (s : Sent) → NotSent IllegalState c s → b ≡ true → m ≡ None → moved_says m ≡ along send_close_with_error (state_says c.local_state)
+          → (t id : List ℕ) → Does (send_close_to (Some e) out) (whole c t id) (sent_says s.answer) out (whole s.connection t id)
+      error_20 m s r g i p t id = not_legal t id (send_close_to (Some e) out) c _ _ _ (close_sending (whole c t id) (Some e) out) l (sym ok ∙ g) m s r i p
 
       pub error_sent :
-          (m : Moved) (next : ConnectionState) (limit : ℕ) (answer : Written) (out' : List ℕ) (d : Connection) → b ≡ true → m ≡ To next
-          → moved_says m ≡ along send_close_with_error (state_says c.local_state) → limit ≡ c.endpoint.writing_limit → Wrote (write_close (some e) limit out) answer out out'
-          → d ≡ moved_if answer c next → (t id : List ℕ) → Does (send_close_to (some e) out) (whole c t id) (sent_says answer) out' (whole d t id)
+          (m : Option ConnectionState) (next : ConnectionState) (limit : ℕ) (answer : Result ℕ Refusal) (out' : List ℕ) (d : Connection) → b ≡ true → m ≡ Some next
+          → moved_says m ≡ along send_close_with_error (state_says c.local_state) → limit ≡ c.endpoint.writing_limit → Wrote (write_close (Some e) limit out) answer out out'
+          → d ≡ moved_if answer c next → (t id : List ℕ) → Does (send_close_to (Some e) out) (whole c t id) (sent_says answer) out' (whole d t id)
       error_sent m next limit answer out' d g i p w r q t id =
-          sent t id (send_close_to (some e) out) c _ _ _ (close_sending (whole c t id) (some e) out) l (sym ok ∙ g) m next (write_close (some e) limit out) answer out' d i p
-          (λ z. ap (λ n. write_close (some e) n out) w ∙ close_written (some e) c.endpoint.writing_limit out (room_yes 0 out (omega arith)) (sym ok ∙ g)) r q
+          sent t id (send_close_to (Some e) out) c _ _ _ (close_sending (whole c t id) (Some e) out) l (sym ok ∙ g) m next (write_close (Some e) limit out) answer out' d i p
+          (λ z. ap (λ n. write_close (Some e) n out) w ∙ close_written (Some e) c.endpoint.writing_limit out (room_yes 0 out (omega arith)) (sym ok ∙ g)) r q
 
 -- ---- the tick
 
@@ -253,7 +251,7 @@ module _ (x : State) (out : List ℕ) where
           let r : tick_of x out ≡ writes [] stay = room ∙ rw (sym e, t, sym f, u) in
           record { beats = sym (ap answered r); beats_output = sym (ap (λ v. laid (written v) out) r) }
 
-      module _ (b : Bool) (f : b ≡ is_one_of silent x) (u : b ≡ false) (out' : List ℕ) (w : Written) (g : Wrote (write_empty 512 out) w out out') where
+      module _ (b : Bool) (f : b ≡ is_one_of silent x) (u : b ≡ false) (out' : List ℕ) (w : Result ℕ Refusal) (g : Wrote (write_empty 512 out) w out out') where
         writes_it : tick_of x out ≡ writes (frame_bytes 0 []) stay
         writes_it = room ∙ rw (sym e, t, sym f, u)
 
@@ -261,17 +259,17 @@ module _ (x : State) (out : List ℕ) where
         unfolding write_empty write_frame limited require frame_bytes frame_header bytes_of
         empty = require_on 9 _ _ (room_yes 0 out (omega arith))
 
-        pub beats_writes : (n : ℕ) → w ≡ Bytes n → Beats x (accept (wrote n)) out out'
-        unfolding O.written counted
+        pub beats_writes : (n : ℕ) → w ≡ Ok n → Beats x (accept (wrote n)) out out'
+        unfolding counted
         beats_writes n p =
-            let q : n ≡ length (frame_bytes 0 []) = (let z : O.written (Bytes n) ≡ counted (accept (frame_bytes 0 [])) = ap O.written (sym p) ∙ g.answer ∙ ap counted empty in cc) in
+            let q : n ≡ length (frame_bytes 0 []) = (let z : judged (Ok n) ≡ counted (accept (frame_bytes 0 [])) = ap judged (sym p) ∙ g.answer ∙ ap counted empty in cc) in
             record {
               beats = ap (λ m. accept (wrote m)) q ∙ sym (ap answered writes_it);
               beats_output = g.output ∙ ap (λ v. laid v out) empty ∙ sym (ap (λ v. laid (written v) out) writes_it);
             }
 
-        pub beats_written : (k : ℕ) → w ≡ Refused k → Beats x (refuse k) out out'
-        unfolding O.written counted
+        pub beats_written : (k : Refusal) → w ≡ Err k → Beats x (refuse (number_of k)) out out'
+        unfolding counted
         beats_written k p =
-            let z : O.written (Refused k) ≡ counted (accept (frame_bytes 0 [])) = ap O.written (sym p) ∙ g.answer ∙ ap counted empty in
+            let z : judged (Err k) ≡ counted (accept (frame_bytes 0 [])) = ap judged (sym p) ∙ g.answer ∙ ap counted empty in
             apart (cc)

@@ -1,14 +1,13 @@
 -- What the calls of a connection promise.
 -- Assumes nothing: these are definitions.
-use Rattle.std.specs.Prelude.{◌≡◌, Bool, true, false, cond, ◌&&◌, List, [], ◌∷◌, ℕ, suc, eqb, length}
-use Rattle.std.proofs.Math.Option.{Option}
+use Rattle.std.specs.Prelude.{◌≡◌, Bool, true, false, cond, ◌&&◌, List, [], ◌∷◌, ℕ, suc, eqb, length, Option, None, Some, Result, Ok, Err}
 use Rattle.octets.specs.Verdict.{Verdict, refuse, accept, require}
 use Rattle.octets.specs.Output.{room_for, laid}
-use Rattle.octets.specs.declared.Written.{Written}
-use Rattle.octets.specs.declared.Written.TheVariants.{Bytes, Refused}
+use Rattle.octets.specs.Refusal.{number_of}
+use Rattle.octets.specs.declared.Refusal.{Refusal}
 use Rattle.frame_decoder.specs.Frame.{Frame}
 use Rattle.frame_decoder.specs.declared.Frame as F
-use Rattle.frame_decoder.specs.declared.Frame.TheVariants.{Refused as NotRead, Empty, Body}
+use Rattle.frame_decoder.specs.declared.Frame.TheVariants.{Empty, Body}
 use Rattle.frame_encoder.specs.Frames.{Settings}
 use Rattle.connection_state.specs.declared.ConnectionState.{ConnectionState}
 use Rattle.connection_state.specs.States.{State, Discarding, is}
@@ -17,15 +16,10 @@ use Rattle.connection_model.specs.Connection as M
 use Rattle.channels.specs.Numbers.{taken_below}
 use Rattle.channels.specs.Places.{covers, past}
 use Rattle.local_open.specs.Settings.{allowed}
-use Rattle.endpoint.specs.declared.ResumedEndpoint.{ResumedEndpoint}
-use Rattle.endpoint.specs.declared.ResumedEndpoint.TheVariants.{Is, Broken}
 use Rattle.endpoint.specs.Answers.{places_of}
 use Rattle.endpoint.specs.Promises as E
+use Rattle.endpoint.specs.declared.Endpoint.{Endpoint}
 use Rattle.connection.specs.declared.Connection.{Connection}
-use Rattle.connection.specs.declared.NewConnection.{NewConnection}
-use Rattle.connection.specs.declared.NewConnection.TheVariants.{Made, Refused as NotMade}
-use Rattle.connection.specs.declared.ResumedConnection.{ResumedConnection}
-use Rattle.connection.specs.declared.ResumedConnection.TheVariants.{Is as Resumed, Broken as NotResumed}
 use Rattle.connection.specs.View.{Whole, whole, endpoint_in, role_of, settings_of, view_of, Sound}
 
 -- ---- calls
@@ -82,22 +76,22 @@ pub record Begun (role : Role) (S : Settings) (w : Whole) : Type 0 where
   pub begun_sound : Sound w
   pub begun_counted : E.Counted w.connection.endpoint
 
-abbrev pub made_says : NewConnection → Verdict (Unit {0})
-made_says (Made c) = accept tt
-made_says (NotMade k) = refuse k
+abbrev pub made_says : Result Connection Refusal → Verdict (Unit {0})
+made_says (Ok c) = accept tt
+made_says (Err e) = refuse (number_of e)
 
 -- 8 for settings beyond their limits and for tables that are too short; the tables are as they were then
-pub record Makes (role : Role) (S : Settings) (t : List ℕ) (r : NewConnection) (t' : List ℕ) : Type 0 where
+pub record Makes (role : Role) (S : Settings) (t : List ℕ) (r : Result Connection Refusal) (t' : List ℕ) : Type 0 where
   pub checks : made_says r ≡ require 8 (allowed S && covers (suc S.channel_max) t) (λ _. accept tt)
-  pub made : (c : Connection) → r ≡ Made c → Begun role S (whole c t' S.container_id)
-  pub refused : (k : ℕ) → r ≡ NotMade k → t' ≡ t
+  pub made : (c : Connection) → r ≡ Ok c → Begun role S (whole c t' S.container_id)
+  pub refused : (e : Refusal) → r ≡ Err e → t' ≡ t
   pub made_long : length t' ≡ length t
   pub made_past : past (suc S.channel_max) t' ≡ past (suc S.channel_max) t
 
 -- a connection in a state whose endpoint was kept
-abbrev pub resumed_in : ConnectionState → ResumedEndpoint → ResumedConnection
-resumed_in x (Is e) = Resumed (record { local_state = x; endpoint = e })
-resumed_in x Broken = NotResumed
+abbrev pub resumed_in : ConnectionState → Option Endpoint → Option Connection
+resumed_in x (Some e) = Some (record { local_state = x; endpoint = e })
+resumed_in x None = None
 
 -- ---- between the private functions
 
@@ -106,9 +100,9 @@ abbrev pub moved_to : Connection → ConnectionState → Connection
 moved_to c x = record { local_state = x; endpoint = c.endpoint }
 
 -- in another state, if something was written
-abbrev pub moved_if : Written → Connection → ConnectionState → Connection
-moved_if (Bytes n) c x = moved_to c x
-moved_if (Refused k) c x = c
+abbrev pub moved_if : Result ℕ Refusal → Connection → ConnectionState → Connection
+moved_if (Ok n) c x = moved_to c x
+moved_if (Err e) c x = c
 
 -- a tick in a state
 abbrev pub tick_of : State → List ℕ → Verdict Outcome
@@ -119,10 +113,9 @@ pub record Beats (x : State) (a : Verdict Answer) (out out' : List ℕ) : Type 0
   pub beats_output : out' ≡ laid (written (tick_of x out)) out
 
 -- what comes of a frame that has no performative
-abbrev pub bare_says : F.Frame → Verdict Answer
-bare_says (NotRead k) = refuse k
-bare_says (Empty ch size from) = accept (nothing_to_do size)
-bare_says (Body ch size from p end) = accept (nothing_to_do size)
+abbrev pub bare_says : F.Frame → Answer
+bare_says (Empty ch size from) = nothing_to_do size
+bare_says (Body ch size from p end) = nothing_to_do size
 
 -- an answer and a connection, as a rule has it
 pub record Reads (rule : Verdict Outcome) (before : Whole) (a : Verdict Answer) (later : Whole) : Type 0 where

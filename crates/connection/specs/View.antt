@@ -1,11 +1,12 @@
 -- What a connection stands for in its definition, with what it is lent, and what the answers of its calls say.
 -- Assumes nothing: these are definitions.
-use Rattle.std.specs.Prelude.{true, ◌≡◌, List, ℕ}
-use Rattle.std.proofs.Math.Option.{Option, none, some}
+use Rattle.std.specs.Prelude.{true, ◌≡◌, List, ℕ, Result, Ok, Err}
 use Rattle.octets.specs.Verdict.{Verdict, refuse, accept}
+use Rattle.octets.specs.Refusal.{number_of}
+use Rattle.octets.specs.declared.Refusal.{Refusal}
 use Rattle.frame_encoder.specs.Frames.{Settings}
 use Rattle.connection_model.specs.Connection as M
-use Rattle.connection_model.specs.Connection.{Answer, header, other_protocol, channel, wrote, stop}
+use Rattle.connection_model.specs.Connection.{Answer, header, other_protocol, wrote, stop}
 use Rattle.connection_model.specs.Sound.{Reached}
 use Rattle.connection_state.specs.Answers.{state_says}
 use Rattle.local_open.specs.Settings.{allowed}
@@ -13,15 +14,9 @@ use Rattle.endpoint.specs.Answers as E
 use Rattle.endpoint.specs.Promises as P
 use Rattle.connection.specs.declared.Connection.{Connection}
 use Rattle.connection.specs.declared.HeaderAnswer.{HeaderAnswer}
-use Rattle.connection.specs.declared.HeaderAnswer.TheVariants.{Amqp, OtherProtocol, Refused as NoHeader}
-use Rattle.connection.specs.declared.AllocateAnswer.{AllocateAnswer}
-use Rattle.connection.specs.declared.AllocateAnswer.TheVariants.{Channel, Refused as NoChannel}
-use Rattle.connection.specs.declared.DeallocateAnswer.{DeallocateAnswer}
-use Rattle.connection.specs.declared.DeallocateAnswer.TheVariants.{Freed, Refused as NotFreed}
-use Rattle.connection.specs.declared.HandleAnswer.{HandleAnswer}
-use Rattle.connection.specs.declared.HandleAnswer.TheVariants.{Handle, Nothing, Refused as NotLooked}
+use Rattle.connection.specs.declared.HeaderAnswer.TheVariants.{Amqp, OtherProtocol}
 use Rattle.connection.specs.declared.TickAnswer.{TickAnswer}
-use Rattle.connection.specs.declared.TickAnswer.TheVariants.{Wrote, Stop, Refused as NotTicked}
+use Rattle.connection.specs.declared.TickAnswer.TheVariants.{Wrote, Stop}
 
 -- a connection with what it is lent: its tables, and the container-id of its settings
 pub record Whole : Type 0 where
@@ -53,25 +48,16 @@ pub record Sound (w : Whole) : Type 0 where
 
 -- ---- answers
 
-abbrev pub header_says : HeaderAnswer → Verdict Answer
-header_says (Amqp n) = accept (header n)
-header_says (OtherProtocol n) = accept (other_protocol n)
-header_says (NoHeader k) = refuse k
+abbrev pub header_says : Result HeaderAnswer Refusal → Verdict Answer
+header_says (Ok (Amqp n)) = accept (header n)
+header_says (Ok (OtherProtocol n)) = accept (other_protocol n)
+header_says (Err e) = refuse (number_of e)
 
-abbrev pub allocate_says : AllocateAnswer → Verdict Answer
-allocate_says (Channel k) = accept (channel k)
-allocate_says (NoChannel k) = refuse k
+abbrev pub freed_says : Result ℕ Refusal → Verdict Answer
+freed_says (Ok h) = accept (M.freed h)
+freed_says (Err e) = refuse (number_of e)
 
-abbrev pub freed_says : DeallocateAnswer → Verdict Answer
-freed_says (Freed h) = accept (M.freed h)
-freed_says (NotFreed k) = refuse k
-
-abbrev pub handle_says : HandleAnswer → Verdict (Option ℕ)
-handle_says (Handle h) = accept (some h)
-handle_says Nothing = accept none
-handle_says (NotLooked k) = refuse k
-
-abbrev pub tick_says : TickAnswer → Verdict Answer
-tick_says (Wrote n) = accept (wrote n)
-tick_says Stop = accept stop
-tick_says (NotTicked k) = refuse k
+abbrev pub tick_says : Result TickAnswer Refusal → Verdict Answer
+tick_says (Ok (Wrote n)) = accept (wrote n)
+tick_says (Ok Stop) = accept stop
+tick_says (Err e) = refuse (number_of e)

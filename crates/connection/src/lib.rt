@@ -8,23 +8,22 @@ mod sending;
 mod sessions;
 
 ghost use Rattle.std.specs.Prelude.{◌≡◌, List, ℕ};
-ghost use Rattle.frame_encoder.specs.Answers.{settings};
+ghost use Rattle.octets.specs.Refusal.{judged};
+ghost use Rattle.frame_encoder.specs.Answers.{settings_say};
 ghost use Rattle.connection_state.specs.Answers.{state_says};
 ghost use Rattle.channels.specs.Ties.{handle_of};
-ghost use Rattle.channels.specs.Channels.{agreed_max_says, held_says};
 ghost use Rattle.connection_model.specs.Connection as M;
 ghost use Rattle.endpoint.specs.Answers.{role_says};
 ghost use Rattle.endpoint.specs.Promises.{endpoint_of, resumed_as};
-ghost use Rattle.octets.specs.Verdict.{accept};
-ghost use Rattle.connection.specs.View.{whole, view_of, handle_says};
+ghost use Rattle.connection.specs.View.{whole, view_of};
 ghost use Rattle.connection.specs.Promises.{Makes, Counts, Looks, is_covered, resumed_in, moved_to, moved_if};
 
-use channels::{AgreedMax, Held, OutgoingChannels, places};
+use channels::{OutgoingChannels, places};
 use connection_state::ConnectionState;
-use endpoint::{Endpoint, FrameAnswer, ResumedEndpoint, Role};
-use frame_encoder::IdleTimeOut;
-use local_open::{LocalOpen, NewOpen};
-use octets::Written;
+use endpoint::{Endpoint, FrameAnswer, Role};
+use frame_encoder::Settings;
+use local_open::LocalOpen;
+use octets::Refusal;
 use protocol_header::ProtocolId;
 
 #[derive(Clone, Copy)]
@@ -33,23 +32,9 @@ pub struct Connection {
     endpoint: Endpoint,
 }
 
-// A new connection, or the refusal of its settings or tables.
-#[derive(Clone, Copy)]
-pub enum NewConnection {
-    Made(Connection),
-    Refused(u8),
-}
-
-// A connection that was kept, or that calls cannot lead to it.
-#[derive(Clone, Copy)]
-pub enum ResumedConnection {
-    Is(Connection),
-    Broken,
-}
-
 #[derive(Clone, Copy)]
 pub struct Sent {
-    pub answer: Written,
+    pub answer: Result<usize, Refusal>,
     pub connection: Connection,
 }
 
@@ -58,65 +43,45 @@ pub struct Sent {
 pub enum HeaderAnswer {
     Amqp(usize),
     OtherProtocol(usize),
-    Refused(u8),
 }
 
 #[derive(Clone, Copy)]
 pub struct ReceivedHeader {
-    pub answer: HeaderAnswer,
+    pub answer: Result<HeaderAnswer, Refusal>,
     pub connection: Connection,
 }
 
 #[derive(Clone, Copy)]
 pub struct ReceivedFrame {
-    pub answer: FrameAnswer,
+    pub answer: Result<FrameAnswer, Refusal>,
     pub connection: Connection,
 }
 
-#[derive(Clone, Copy)]
-pub enum AllocateAnswer {
-    Channel(u16),
-    Refused(u8),
-}
-
+// The channel that a session got.
 #[derive(Clone, Copy)]
 pub struct AllocatedSession {
-    pub answer: AllocateAnswer,
+    pub answer: Result<u16, Refusal>,
     pub connection: Connection,
 }
 
-// The freed handle, or the refusal: 26 where the channel was not taken.
-#[derive(Clone, Copy)]
-pub enum DeallocateAnswer {
-    Freed(u32),
-    Refused(u8),
-}
-
+// The freed handle, or the refusal: `NotTaken` where the channel was not taken.
 #[derive(Clone, Copy)]
 pub struct DeallocatedSession {
-    pub answer: DeallocateAnswer,
+    pub answer: Result<u32, Refusal>,
     pub connection: Connection,
 }
 
-// The handle that was looked up, or that there is none.
-#[derive(Clone, Copy)]
-pub enum HandleAnswer {
-    Handle(u32),
-    Nothing,
-    Refused(u8),
-}
-
-// How many bytes a tick wrote, or that the connection is at its end.
+// How many bytes a tick wrote, or that the connection is at its end. Not an Option: the end is an
+// answer, and not the want of one.
 #[derive(Clone, Copy)]
 pub enum TickAnswer {
     Wrote(usize),
     Stop,
-    Refused(u8),
 }
 
 #[derive(Clone, Copy)]
 pub struct Ticked {
-    pub answer: TickAnswer,
+    pub answer: Result<TickAnswer, Refusal>,
     pub connection: Connection,
 }
 
@@ -124,43 +89,21 @@ pub struct Ticked {
 pub(crate) const OUTPUT_ROOM: usize = Connection::MAX_FRAME_SIZE as usize;
 
 // The refusal of tables that are too short for the channels that the peer may use.
-pub(crate) const UNCOVERED: u8 = 8;
+pub(crate) const UNCOVERED: Refusal = Refusal::OutOfBounds;
 
 // A connection that starts, with its settings checked.
-fn make(
-    role: Role,
-    container_id: &[u8],
-    max_frame_size: u32,
-    channel_max: u16,
-    idle_time_out: IdleTimeOut,
-    tables: &mut [u8],
-) -> NewConnection
-    ensures { Makes (role_says role) (settings container_id.now max_frame_size channel_max idle_time_out) tables.old result tables.new }
+fn make(role: Role, settings: &Settings<'_>, tables: &mut [u8]) -> Result<Connection, Refusal>
+    ensures { Makes (role_says role) (settings_say settings.now) tables.old result tables.new }
 {
-    let checked = LocalOpen::new(container_id, max_frame_size, channel_max, idle_time_out);
-    match checked {
-        NewOpen::Refused(k) => NewConnection::Refused(k),
-        NewOpen::Taken(open) => {
-            if !places::covers(tables, channel_max) {
-                return NewConnection::Refused(UNCOVERED);
-            }
-            let connection = Connection {
-                local_state: ConnectionState::Start,
-                endpoint: Endpoint::new(role, open, tables),
-            };
-            NewConnection::Made(connection)
-        }
+    let open = LocalOpen::new(settings)?;
+    if !places::covers(tables, settings.channel_max) {
+        return Err(UNCOVERED);
     }
-}
-
-// What a lookup found.
-fn looked_up(held: Held) -> HandleAnswer
-    ensures { handle_says result ≡ accept (held_says held) }
-{
-    match held {
-        Held::Handle(handle) => HandleAnswer::Handle(handle),
-        Held::Nothing => HandleAnswer::Nothing,
-    }
+    let connection = Connection {
+        local_state: ConnectionState::Start,
+        endpoint: Endpoint::new(role, open, tables),
+    };
+    Ok(connection)
 }
 
 impl Connection {
@@ -179,46 +122,20 @@ impl Connection {
     pub const MAX_FRAME_SIZE: u32 = 16384;
 
     // The connection of the one that dials
-    pub fn dialler(
-        container_id: &[u8],
-        max_frame_size: u32,
-        channel_max: u16,
-        idle_time_out: IdleTimeOut,
-        tables: &mut [u8],
-    ) -> NewConnection
-        ensures { Makes M.dialler (settings container_id.now max_frame_size channel_max idle_time_out) tables.old result tables.new }
+    pub fn dialler(settings: &Settings<'_>, tables: &mut [u8]) -> Result<Connection, Refusal>
+        ensures { Makes M.dialler (settings_say settings.now) tables.old result tables.new }
     {
-        make(
-            Role::Dialler,
-            container_id,
-            max_frame_size,
-            channel_max,
-            idle_time_out,
-            tables,
-        )
+        make(Role::Dialler, settings, tables)
     }
 
     // The connection of the one that listens
-    pub fn listener(
-        container_id: &[u8],
-        max_frame_size: u32,
-        channel_max: u16,
-        idle_time_out: IdleTimeOut,
-        tables: &mut [u8],
-    ) -> NewConnection
-        ensures { Makes M.listener (settings container_id.now max_frame_size channel_max idle_time_out) tables.old result tables.new }
+    pub fn listener(settings: &Settings<'_>, tables: &mut [u8]) -> Result<Connection, Refusal>
+        ensures { Makes M.listener (settings_say settings.now) tables.old result tables.new }
     {
-        make(
-            Role::Listener,
-            container_id,
-            max_frame_size,
-            channel_max,
-            idle_time_out,
-            tables,
-        )
+        make(Role::Listener, settings, tables)
     }
 
-    // A connection that was kept: its state, and what its endpoint has.
+    // A connection that was kept, if calls can lead to it: its state, and what its endpoint has.
     pub fn resumed(
         state: ConnectionState,
         role: Role,
@@ -226,27 +143,21 @@ impl Connection {
         reading_limit: u32,
         writing_limit: u32,
         outgoing: OutgoingChannels,
-    ) -> ResumedConnection
+    ) -> Option<Connection>
         ensures { result ≡ resumed_in state (resumed_as (state_says state) (endpoint_of role local_open reading_limit writing_limit outgoing)) }
     {
-        let read = Endpoint::resumed(
+        let endpoint = Endpoint::resumed(
             role,
             local_open,
             reading_limit,
             writing_limit,
             outgoing,
             state,
-        );
-        match read {
-            ResumedEndpoint::Broken => ResumedConnection::Broken,
-            ResumedEndpoint::Is(endpoint) => {
-                let connection = Connection {
-                    local_state: state,
-                    endpoint,
-                };
-                ResumedConnection::Is(connection)
-            }
-        }
+        )?;
+        Some(Connection {
+            local_state: state,
+            endpoint,
+        })
     }
 
     pub fn role(self) -> Role
@@ -294,8 +205,8 @@ impl Connection {
         endpoint.writing_limit()
     }
 
-    pub fn agreed_channel_max(self) -> AgreedMax
-        ensures { (t id : List ℕ) → agreed_max_says result ≡ (view_of (whole self t id)).agreed_max }
+    pub fn agreed_channel_max(self) -> Option<u16>
+        ensures { (t id : List ℕ) → result ≡ (view_of (whole self t id)).agreed_max }
     {
         let endpoint = self.endpoint;
         endpoint.agreed_max()
@@ -318,25 +229,25 @@ impl Connection {
     }
 
     // The handle of the session on an outgoing channel
-    pub fn handle_at(self, tables: &[u8], channel: u16) -> HandleAnswer
-        ensures { (id : List ℕ) → Looks (whole self tables.now id) ((view_of (whole self tables.now id)).taken channel) (handle_says result) }
+    pub fn handle_at(self, tables: &[u8], channel: u16) -> Result<Option<u32>, Refusal>
+        ensures { (id : List ℕ) → Looks (whole self tables.now id) ((view_of (whole self tables.now id)).taken channel) (judged result) }
     {
         let endpoint = self.endpoint;
         if !endpoint.is_covered(tables) {
-            return HandleAnswer::Refused(UNCOVERED);
+            return Err(UNCOVERED);
         }
-        looked_up(endpoint.handle_at(tables, channel))
+        Ok(endpoint.handle_at(tables, channel))
     }
 
     // The handle that an incoming channel is tied to
-    pub fn tied_handle(self, tables: &[u8], channel: u16) -> HandleAnswer
-        ensures { (id : List ℕ) → Looks (whole self tables.now id) (handle_of ((view_of (whole self tables.now id)).ties channel)) (handle_says result) }
+    pub fn tied_handle(self, tables: &[u8], channel: u16) -> Result<Option<u32>, Refusal>
+        ensures { (id : List ℕ) → Looks (whole self tables.now id) (handle_of ((view_of (whole self tables.now id)).ties channel)) (judged result) }
     {
         let endpoint = self.endpoint;
         if !endpoint.is_covered(tables) {
-            return HandleAnswer::Refused(UNCOVERED);
+            return Err(UNCOVERED);
         }
-        looked_up(endpoint.tied_handle(tables, channel))
+        Ok(endpoint.tied_handle(tables, channel))
     }
 
     // How many outgoing channels are taken
@@ -358,12 +269,16 @@ impl Connection {
     }
 
     // What was written decides whether the state moves.
-    pub(crate) fn moved_if(self, answer: Written, next: ConnectionState) -> Connection
+    pub(crate) fn moved_if(
+        self,
+        answer: Result<usize, Refusal>,
+        next: ConnectionState,
+    ) -> Connection
         ensures { result ≡ moved_if answer self next }
     {
         match answer {
-            Written::Bytes(_) => self.moved_to(next),
-            Written::Refused(_) => self,
+            Ok(_) => self.moved_to(next),
+            Err(_) => self,
         }
     }
 }

@@ -1,11 +1,10 @@
 // The calls that read: the peer's header, and a frame.
-ghost use Rattle.std.specs.Prelude.{◌≡◌, List, [], ℕ, ◌<◌};
+ghost use Rattle.std.specs.Prelude.{◌≡◌, List, [], ℕ, ◌<◌, Err};
 ghost use Rattle.octets.specs.Verdict.{and_then};
 ghost use Rattle.protocol_header.specs.Header.{amqp100};
-ghost use Rattle.performatives.specs.Answers.{performative_says, condition_says};
+ghost use Rattle.performatives.specs.Answers.{performative_says};
 ghost use Rattle.connection_state.specs.States.{along, receive_other_header};
 ghost use Rattle.connection_model.specs.Connection.{
-  has_error,
   headed,
   open_read,
   close_read,
@@ -16,34 +15,22 @@ ghost use Rattle.connection_model.specs.Connection.{
   receive_header_from,
   receive_frame,
 };
-ghost use Rattle.endpoint.specs.declared.FrameAnswer.TheVariants.{Refused as NoFrame};
-ghost use Rattle.endpoint.specs.Answers.{places_of, frame_of, answer_says};
-ghost use Rattle.connection.specs.declared.HeaderAnswer.TheVariants.{Refused as NoHeader};
+ghost use Rattle.endpoint.specs.Answers.{places_of, frame_of, came_says, answer_says};
 ghost use Rattle.connection.specs.View.{whole, role_of, settings_of, view_of, header_says};
 ghost use Rattle.connection.specs.Promises.{Does, DoesIn, ReadsIn, ReadsBy, bare_says, said_read};
 
 use crate::{Connection, HeaderAnswer, ReceivedFrame, ReceivedHeader, UNCOVERED};
-use connection_state::Moved;
 use endpoint::{FrameAnswer, Incoming};
 use frame_decoder::Frame;
-use performatives::{Condition, Performative};
+use octets::Refusal;
+use performatives::Performative;
 use protocol_header::HeaderRead;
 
-fn is_present(condition: Condition) -> bool
-    ensures { result ≡ has_error (condition_says condition) }
-{
-    match condition {
-        Condition::Absent => false,
-        Condition::At { from: _, len: _ } => true,
-    }
-}
-
-// What comes of a frame that has no performative: its refusal, or that there is nothing to do.
+// What comes of a frame that has no performative: there is nothing to do.
 fn bodiless(frame: Frame) -> FrameAnswer
-    ensures { answer_says result ≡ bare_says frame }
+    ensures { came_says result ≡ bare_says frame }
 {
     match frame {
-        Frame::Refused(k) => FrameAnswer::Refused(k),
         Frame::Empty {
             channel: _,
             size,
@@ -60,20 +47,20 @@ fn bodiless(frame: Frame) -> FrameAnswer
 }
 
 impl Connection {
-    fn not_received(self, k: u8) -> ReceivedFrame
-        ensures { (result.answer ≡ NoFrame k) × (result.connection ≡ self) }
+    fn not_received(self, refusal: Refusal) -> ReceivedFrame
+        ensures { (result.answer ≡ Err refusal) × (result.connection ≡ self) }
     {
         ReceivedFrame {
-            answer: FrameAnswer::Refused(k),
+            answer: Err(refusal),
             connection: self,
         }
     }
 
-    fn no_header(self, k: u8) -> ReceivedHeader
-        ensures { (result.answer ≡ NoHeader k) × (result.connection ≡ self) }
+    fn no_header(self, refusal: Refusal) -> ReceivedHeader
+        ensures { (result.answer ≡ Err refusal) × (result.connection ≡ self) }
     {
         ReceivedHeader {
-            answer: HeaderAnswer::Refused(k),
+            answer: Err(refusal),
             connection: self,
         }
     }
@@ -82,11 +69,13 @@ impl Connection {
     pub fn receive_header(self, s: &[u8]) -> ReceivedHeader
         ensures { (t id : List ℕ) → Does (receive_header_from s.now) (whole self t id) (header_says result.answer) [] (whole result.connection t id) }
     {
-        match protocol_header::read(s) {
+        let header = match protocol_header::read(s) {
+            Err(refusal) => return self.no_header(refusal),
+            Ok(header) => header,
+        };
+        match header {
             HeaderRead::Amqp => self.on_amqp_header(),
             HeaderRead::Other(_) => self.on_other_header(),
-            HeaderRead::Malformed => self.no_header(2),
-            HeaderRead::Missing => self.no_header(1),
         }
     }
 
@@ -94,11 +83,11 @@ impl Connection {
         ensures { ReadsBy (λ w. headed (view_of w) amqp100) self (header_says result.answer) result.connection }
     {
         let state = self.local_state;
-        let Moved::To(next) = state.receive_header() else {
-            return self.no_header(20);
+        let Some(next) = state.receive_header() else {
+            return self.no_header(Refusal::IllegalState);
         };
         ReceivedHeader {
-            answer: HeaderAnswer::Amqp(8),
+            answer: Ok(HeaderAnswer::Amqp(8)),
             connection: self.moved_to(next),
         }
     }
@@ -107,16 +96,16 @@ impl Connection {
         ensures { ReadsBy (λ w. and_then (along receive_other_header (view_of w).state) (λ x. says (other_protocol 8) (go x))) self (header_says result.answer) result.connection }
     {
         let state = self.local_state;
-        let Moved::To(next) = state.receive_other_header() else {
-            return self.no_header(20);
+        let Some(next) = state.receive_other_header() else {
+            return self.no_header(Refusal::IllegalState);
         };
         ReceivedHeader {
-            answer: HeaderAnswer::OtherProtocol(8),
+            answer: Ok(HeaderAnswer::OtherProtocol(8)),
             connection: self.moved_to(next),
         }
     }
 
-    // Takes the frame that the bytes start with. A session that the peer begins gets the spare handle. Tables that are too short are 8.
+    // Takes the frame that the bytes start with. A session that the peer begins gets the spare handle. Tables that are too short are `OutOfBounds`.
     pub fn receive_frame(self, tables: &mut [u8], s: &[u8], spare: u32) -> ReceivedFrame
         ensures { (id : List ℕ) → DoesIn (receive_frame s.now spare) (whole self tables.old id) (answer_says result.answer) [] (whole result.connection tables.new id) }
     {
@@ -125,7 +114,11 @@ impl Connection {
             return self.not_received(UNCOVERED);
         }
         let highest = endpoint.channel_max();
-        let frame = frame_decoder::read(s, endpoint.reading_limit(), highest);
+        let read = frame_decoder::read(s, endpoint.reading_limit(), highest);
+        let frame = match read {
+            Err(refusal) => return self.not_received(refusal),
+            Ok(frame) => frame,
+        };
         let Frame::Body {
             channel,
             size,
@@ -135,7 +128,7 @@ impl Connection {
         } = frame
         else {
             return ReceivedFrame {
-                answer: bodiless(frame),
+                answer: Ok(bodiless(frame)),
                 connection: self,
             };
         };
@@ -159,14 +152,14 @@ impl Connection {
         ensures { ReadsIn (λ w. said_read (role_of w) (settings_of w) (view_of w) (frame_of frame) spare (performative_says performative).0 (performative_says performative).1) self tables.old (answer_says result.answer) result.connection tables.new }
     {
         if let Performative::Close(error) = performative {
-            return self.on_incoming_close(frame, is_present(error));
+            return self.on_incoming_close(frame, error.is_some());
         }
         let state = self.local_state;
         if state.is_discarding() {
             return ReceivedFrame {
-                answer: FrameAnswer::NothingToDo {
+                answer: Ok(FrameAnswer::NothingToDo {
                     consumed: frame.size,
-                },
+                }),
                 connection: self,
             };
         }
@@ -191,8 +184,8 @@ impl Connection {
         ensures { ReadsBy (λ w. open_read (settings_of w) (view_of w) (frame_of frame) max_frame_size channel_max idle_time_out) self (answer_says result.answer) result.connection }
     {
         let state = self.local_state;
-        let Moved::To(next) = state.receive_open() else {
-            return self.not_received(20);
+        let Some(next) = state.receive_open() else {
+            return self.not_received(Refusal::IllegalState);
         };
         let endpoint = self.endpoint;
         let opened = FrameAnswer::Opened {
@@ -200,7 +193,7 @@ impl Connection {
             idle_time_out,
         };
         ReceivedFrame {
-            answer: opened,
+            answer: Ok(opened),
             connection: Connection {
                 local_state: next,
                 endpoint: endpoint.open(max_frame_size, channel_max),
@@ -212,15 +205,15 @@ impl Connection {
         ensures { ReadsBy (λ w. close_read (view_of w) (frame_of frame) with_error) self (answer_says result.answer) result.connection }
     {
         let state = self.local_state;
-        let Moved::To(next) = state.receive_close() else {
-            return self.not_received(20);
+        let Some(next) = state.receive_close() else {
+            return self.not_received(Refusal::IllegalState);
         };
         let closed = FrameAnswer::Closed {
             consumed: frame.size,
             with_error,
         };
         ReceivedFrame {
-            answer: closed,
+            answer: Ok(closed),
             connection: self.moved_to(next),
         }
     }

@@ -1,44 +1,29 @@
-// The calls about sessions: a channel taken, a channel given back, a session's frame that goes out. Tables that are too short are 8.
-ghost use Rattle.std.specs.Prelude.{◌≡◌, List, [], ℕ};
+// The calls about sessions: a channel taken, a channel given back, a session's frame that goes out. Tables that are too short are `OutOfBounds`.
+ghost use Rattle.std.specs.Prelude.{◌≡◌, List, [], ℕ, Err};
 ghost use Rattle.connection_model.specs.Connection as M;
 ghost use Rattle.connection_model.specs.Connection.{send_session_frame};
-ghost use Rattle.endpoint.specs.Answers.{sent_says, deallocate_says};
-ghost use Rattle.endpoint.specs.Answers.{allocate_says as handedOut};
-ghost use Rattle.connection.specs.declared.AllocateAnswer.TheVariants.{Refused as NoChannel};
-ghost use Rattle.connection.specs.View.{whole, allocate_says, freed_says};
+ghost use Rattle.endpoint.specs.Answers.{sent_says, allocate_says, deallocate_says};
+ghost use Rattle.connection.specs.View.{whole, freed_says};
 ghost use Rattle.connection.specs.Promises.{DoesIn};
 
-use crate::{
-    AllocateAnswer, AllocatedSession, Connection, DeallocateAnswer, DeallocatedSession,
-    OUTPUT_ROOM, Sent, UNCOVERED,
-};
-use channels::{Allocated, Held};
+use crate::{AllocatedSession, Connection, DeallocatedSession, OUTPUT_ROOM, Sent, UNCOVERED};
+use octets::Refusal;
 
-fn allocated(answer: Allocated) -> AllocateAnswer
-    ensures { allocate_says result ≡ handedOut answer }
-{
-    match answer {
-        Allocated::Channel(k) => AllocateAnswer::Channel(k),
-        Allocated::NotOpened => AllocateAnswer::Refused(21),
-        Allocated::Full => AllocateAnswer::Refused(23),
-    }
-}
-
-fn deallocated(answer: Held) -> DeallocateAnswer
+fn deallocated(answer: Option<u32>) -> Result<u32, Refusal>
     ensures { freed_says result ≡ deallocate_says answer }
 {
     match answer {
-        Held::Handle(handle) => DeallocateAnswer::Freed(handle),
-        Held::Nothing => DeallocateAnswer::Refused(26),
+        Some(handle) => Ok(handle),
+        None => Err(Refusal::NotTaken),
     }
 }
 
 impl Connection {
-    fn not_allocated(self, k: u8) -> AllocatedSession
-        ensures { (result.answer ≡ NoChannel k) × (result.connection ≡ self) }
+    fn not_allocated(self, refusal: Refusal) -> AllocatedSession
+        ensures { (result.answer ≡ Err refusal) × (result.connection ≡ self) }
     {
         AllocatedSession {
-            answer: AllocateAnswer::Refused(k),
+            answer: Err(refusal),
             connection: self,
         }
     }
@@ -53,13 +38,13 @@ impl Connection {
         }
         let state = self.local_state;
         if state.is_stopped() {
-            return self.not_allocated(22);
+            return self.not_allocated(Refusal::Stopped);
         }
         let a = endpoint.allocate(tables, handle);
         let answer = a.answer;
         let after = a.endpoint;
         AllocatedSession {
-            answer: allocated(answer),
+            answer,
             connection: Connection {
                 local_state: state,
                 endpoint: after,
@@ -74,7 +59,7 @@ impl Connection {
         let endpoint = self.endpoint;
         if !endpoint.is_covered(tables) {
             return DeallocatedSession {
-                answer: DeallocateAnswer::Refused(UNCOVERED),
+                answer: Err(UNCOVERED),
                 connection: self,
             };
         }
@@ -96,7 +81,7 @@ impl Connection {
         ensures { (id : List ℕ) → DoesIn (send_session_frame frame.now out.old) (whole self tables.old id) (sent_says result.answer) out.new (whole result.connection tables.new id) }
     {
         if out.len() < OUTPUT_ROOM {
-            return self.not_sent(9);
+            return self.not_sent(Refusal::NoRoom);
         }
         let endpoint = self.endpoint;
         if !endpoint.is_covered(tables) {

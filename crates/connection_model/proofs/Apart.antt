@@ -5,7 +5,7 @@
 use mathlib.Core.Path.{◌≡◌, refl, sym, ◌∙◌, ap, ap₂, subst, fun_ext}
 use mathlib.Core.Bool.{Bool, true, false, cond, not}
 use mathlib.Core.List.{List, [], ◌∷◌}
-use mathlib.Core.Option.{Option, none, some}
+use Rattle.std.specs.Prelude.{Option, None, Some}
 use Prim.Native.Nat.{ℕ, ◌+◌, ◌*◌, ◌≤◌, ◌<◌}
 use native.Mathlib.Omega.{arith}
 use lib.Dec.{leb, eqb}
@@ -33,9 +33,9 @@ pub record InReach (highest reading_limit writing_limit : ℕ) (taken : Map) (ti
   pub reading_high : reading_limit ≤ 16384
   pub writing_low : 512 ≤ writing_limit
   pub writing_high : writing_limit ≤ 16384
-  pub taken_in : (n h : ℕ) → taken n ≡ some h → n ≤ highest
-  pub ties_in : (n : ℕ) (t : Tie) → ties n ≡ some t → n ≤ highest
-  pub ties_through : (n : ℕ) (t : Tie) → ties n ≡ some t → taken t.outgoing ≡ some t.handle
+  pub taken_in : (n h : ℕ) → taken n ≡ Some h → n ≤ highest
+  pub ties_in : (n : ℕ) (t : Tie) → ties n ≡ Some t → n ≤ highest
+  pub ties_through : (n : ℕ) (t : Tie) → ties n ≡ Some t → taken t.outgoing ≡ Some t.handle
 
 abbrev pub Reachable : Settings → Connection → Type 0
 Reachable S c = InReach S.channel_max c.reading_limit c.writing_limit c.taken c.ties
@@ -109,11 +109,11 @@ limits a b la ha lb hb told =
 
 -- ---- maps that end at m: they have nothing above it, and are equal if they are so up to it
 
-ends_at : {A : Type 0} (m n : ℕ) (o : Option A) → m < n → ((a : A) → o ≡ some a → n ≤ m) → o ≡ none
-ends_at m n none lt ends = refl
-ends_at m n (some a) lt ends = let le : n ≤ m = ends a refl in absurd (omega arith)
+ends_at : {A : Type 0} (m n : ℕ) (o : Option A) → m < n → ((a : A) → o ≡ Some a → n ≤ m) → o ≡ None
+ends_at m n None lt ends = refl
+ends_at m n (Some a) lt ends = let le : n ≤ m = ends a refl in absurd (omega arith)
 
-same_maps : {A : Type 0} (m : ℕ) (f g : ℕ → Option A) → ((n : ℕ) (a : A) → f n ≡ some a → n ≤ m) → ((n : ℕ) (a : A) → g n ≡ some a → n ≤ m) → ((n : ℕ) → n ≤ m → f n ≡ g n) → f ≡ g
+same_maps : {A : Type 0} (m : ℕ) (f g : ℕ → Option A) → ((n : ℕ) (a : A) → f n ≡ Some a → n ≤ m) → ((n : ℕ) (a : A) → g n ≡ Some a → n ≤ m) → ((n : ℕ) → n ≤ m → f n ≡ g n) → f ≡ g
 same_maps m f g ends-f ends-g same = fun_ext (λ n. at n (leb n m) refl)
   where
     at : (n : ℕ) (t : Bool) → leb n m ≡ t → f n ≡ g n
@@ -132,7 +132,7 @@ module _ (role : Role) (S : Settings) (c d : Connection) (i : Reachable S c) (j 
       sign_both 20 (send_header_to space) space_slice _ (send_header_told role S) z
       ∷ sign_both 20 (receive_header_from amqp) refl _ (receive_header_told role S) z
       ∷ sign_both 20 (send_open_to space) space_slice _ (send_open_told role S) z
-      ∷ sign_both 20 (send_close_to none space) space_slice _ (send_close_told role S) z
+      ∷ sign_both 20 (send_close_to None space) space_slice _ (send_close_told role S) z
       ∷ sign_both 20 (receive_frame (frame_bytes 0 an_open) 0) (frame_valid 0 an_open refl (omega arith)) _ (read_open_told role S) z
       ∷ sign_both 20 (receive_frame (frame_bytes 0 a_close) 0) (frame_valid 0 a_close refl (omega arith)) _ (read_close_told role S) z
       ∷ sign_both 20 (receive_frame (frame_bytes 0 a_detach) 0) (frame_valid 0 a_detach refl (omega arith)) _ (read_detach_told role S) z
@@ -186,17 +186,17 @@ module _ (role : Role) (S : Settings) (c d : Connection) (i : Reachable S c) (j 
 
 -- a channel is freed, and the ties through it are dropped
 abbrev freeing : ℕ → Connection → Connection
-freeing ch c = connection c.state c.reading_limit c.writing_limit c.agreed_max c.hand_out (with c.taken ch none) (dropped ch c.ties)
+freeing ch c = connection c.state c.reading_limit c.writing_limit c.agreed_max c.hand_out (with c.taken ch None) (dropped ch c.ties)
 
 -- what a Detach tells of a tie after a channel was freed: nothing if it was made through this channel, and else its handle
-gone : (o : Option Tie) (t : Tie) → o ≡ some t → handle_of (cond (through t.outgoing o) none o) ≡ none
-gone o t e = ap (λ v. handle_of (cond (through t.outgoing v) none v)) e ∙ ap (λ b. handle_of (cond b none (some t))) (eq-eqb t.outgoing t.outgoing refl)
+gone : (o : Option Tie) (t : Tie) → o ≡ Some t → handle_of (cond (through t.outgoing o) None o) ≡ None
+gone o t e = ap (λ v. handle_of (cond (through t.outgoing v) None v)) e ∙ ap (λ b. handle_of (cond b None (Some t))) (eq-eqb t.outgoing t.outgoing refl)
 
-kept : (ch : ℕ) (o : Option Tie) (u : Tie) → o ≡ some u → eqb u.outgoing ch ≡ false → handle_of (cond (through ch o) none o) ≡ some u.handle
-kept ch o u e p = ap (λ v. handle_of (cond (through ch v) none v)) e ∙ ap (λ b. handle_of (cond b none (some u))) p
+kept : (ch : ℕ) (o : Option Tie) (u : Tie) → o ≡ Some u → eqb u.outgoing ch ≡ false → handle_of (cond (through ch o) None o) ≡ Some u.handle
+kept ch o u e p = ap (λ v. handle_of (cond (through ch v) None v)) e ∙ ap (λ b. handle_of (cond b None (Some u))) p
 
-tie_same : (t u : Tie) → t.outgoing ≡ u.outgoing → t.handle ≡ u.handle → some t ≡ some u
-tie_same t u p q = λ z. some (record { outgoing = p z; handle = q z })
+tie_same : (t u : Tie) → t.outgoing ≡ u.outgoing → t.handle ≡ u.handle → Some t ≡ Some u
+tie_same t u p q = λ z. Some (record { outgoing = p z; handle = q z })
 
 module _ (role : Role) (S : Settings) (few : S.channel_max < 65536) where
   handle_both : (n : ℕ) → n ≤ S.channel_max → (l m : Option (List ℕ)) (c d : Connection) → 512 ≤ c.reading_limit → 512 ≤ d.reading_limit
@@ -207,10 +207,10 @@ module _ (role : Role) (S : Settings) (few : S.channel_max < 65536) where
       ∙ one role S (at Opened l c) (at Opened m d) same (receive_frame (frame_bytes n a_detach) 0) (frame_valid n a_detach refl (omega arith))
       ∙ ap answered (detach_read role S m d n low' le (omega arith)))
 
-  freed_next : (ch h : ℕ) (l : Option (List ℕ)) (c : Connection) → c.taken ch ≡ some h → next role S (at Opened l c) (deallocate ch) ≡ at Opened (freed_first ch l) (freeing ch c)
+  freed_next : (ch h : ℕ) (l : Option (List ℕ)) (c : Connection) → c.taken ch ≡ Some h → next role S (at Opened l c) (deallocate ch) ≡ at Opened (freed_first ch l) (freeing ch c)
   freed_next ch h l c e = ap (λ o. after S (released ch o) (at Opened l c)) e
 
-  freed_both : (ch h : ℕ) (l m : Option (List ℕ)) (c d : Connection) → ch ≤ S.channel_max → c.taken ch ≡ some h → d.taken ch ≡ some h
+  freed_both : (ch h : ℕ) (l m : Option (List ℕ)) (c d : Connection) → ch ≤ S.channel_max → c.taken ch ≡ Some h → d.taken ch ≡ Some h
       → Same role S (at Opened l c) (at Opened m d) → Same role S (at Opened (freed_first ch l) (freeing ch c)) (at Opened (freed_first ch m) (freeing ch d))
   freed_both ch h l m c d le e q same =
       subst (λ x. Same role S x (at Opened (freed_first ch m) (freeing ch d))) (freed_next ch h l c e)
@@ -219,22 +219,22 @@ module _ (role : Role) (S : Settings) (few : S.channel_max < 65536) where
 
   module _ (c d : Connection) (i : Reachable S c) (j : Reachable S d) (l m : Option (List ℕ)) (same : Same role S (at Opened l c) (at Opened m d)) (tk : c.taken ≡ d.taken) where
     -- the outgoing channel of the first tie is freed, which leaves only a tie through another channel
-    outgoing_both : (n : ℕ) → n ≤ S.channel_max → (t u : Tie) → c.ties n ≡ some t → d.ties n ≡ some u → (b : Bool) → eqb u.outgoing t.outgoing ≡ b → t.outgoing ≡ u.outgoing
+    outgoing_both : (n : ℕ) → n ≤ S.channel_max → (t u : Tie) → c.ties n ≡ Some t → d.ties n ≡ Some u → (b : Bool) → eqb u.outgoing t.outgoing ≡ b → t.outgoing ≡ u.outgoing
     outgoing_both n le t u e q true p = sym (eqb-true u.outgoing t.outgoing p)
     outgoing_both n le t u e q false p =
         let ch = t.outgoing in
-        let k : c.taken ch ≡ some t.handle = i.ties_through n t e in
+        let k : c.taken ch ≡ Some t.handle = i.ties_through n t e in
         let told : handle_of (dropped ch c.ties n) ≡ handle_of (dropped ch d.ties n) =
         handle_both n le (freed_first ch l) (freed_first ch m) (freeing ch c) (freeing ch d) i.reading_low j.reading_low
         (freed_both ch t.handle l m c d (i.taken_in ch t.handle k) k (sym (ap (λ f. f ch) tk) ∙ k) same) in
-        let z : none ≡ some u.handle = sym (gone (c.ties n) t e) ∙ told ∙ kept ch (d.ties n) u q p in
+        let z : None ≡ Some u.handle = sym (gone (c.ties n) t e) ∙ told ∙ kept ch (d.ties n) u q p in
         cc
 
     tie_both : (n : ℕ) → n ≤ S.channel_max → (o v : Option Tie) → c.ties n ≡ o → d.ties n ≡ v → handle_of o ≡ handle_of v → o ≡ v
-    tie_both n le none none e q p = refl
-    tie_both n le none (some u) e q p = cc
-    tie_both n le (some t) none e q p = cc
-    tie_both n le (some t) (some u) e q p =
+    tie_both n le None None e q p = refl
+    tie_both n le None (Some u) e q p = cc
+    tie_both n le (Some t) None e q p = cc
+    tie_both n le (Some t) (Some u) e q p =
         let h : t.handle ≡ u.handle = cc in
         tie_same t u (outgoing_both n le t u e q (eqb u.outgoing t.outgoing) refl) h
 
@@ -247,7 +247,7 @@ module _ (role : Role) (S : Settings) (few : S.channel_max < 65536) where
 
 -- a channel more is taken
 abbrev taking : ℕ → Connection → Connection
-taking ch c = connection c.state c.reading_limit c.writing_limit c.agreed_max c.hand_out (with c.taken ch (some 0)) c.ties
+taking ch c = connection c.state c.reading_limit c.writing_limit c.agreed_max c.hand_out (with c.taken ch (Some 0)) c.ties
 
 module _ (role : Role) (S : Settings) where
   allocate_both : (x : State) → Shows x → (l m : Option (List ℕ)) (c d : Connection) → Same role S (at x l c) (at x m d) → answered (given 0 l) ≡ answered (given 0 m)
@@ -257,24 +257,24 @@ module _ (role : Role) (S : Settings) where
   allocate_both x in_closing l m c d same = one role S _ _ same (allocate 0) refl
 
   allocated_both : (x : State) → Shows x → (a b : ℕ) (l m : List ℕ) (c d : Connection)
-      → Same role S (at x (some (a ∷ l)) c) (at x (some (b ∷ m)) d) → Same role S (at x (some l) (taking a c)) (at x (some m) (taking b d))
+      → Same role S (at x (Some (a ∷ l)) c) (at x (Some (b ∷ m)) d) → Same role S (at x (Some l) (taking a c)) (at x (Some m) (taking b d))
   unfolding require
   allocated_both x in_received a b l m c d same = later role S _ _ same (allocate 0) refl
   allocated_both x in_opened_lem a b l m c d same = later role S _ _ same (allocate 0) refl
   allocated_both x in_closing a b l m c d same = later role S _ _ same (allocate 0) refl
 
-  list_both : (x : State) → Shows x → (l m : List ℕ) (c d : Connection) → Same role S (at x (some l) c) (at x (some m) d) → l ≡ m
+  list_both : (x : State) → Shows x → (l m : List ℕ) (c d : Connection) → Same role S (at x (Some l) c) (at x (Some m) d) → l ≡ m
   list_both x g [] [] c d same = refl
-  list_both x g [] (b ∷ m) c d same = let p : answered (given 0 (some [])) ≡ answered (given 0 (some (b ∷ m))) = allocate_both x g (some []) (some (b ∷ m)) c d same in cc
-  list_both x g (a ∷ l) [] c d same = let p : answered (given 0 (some (a ∷ l))) ≡ answered (given 0 (some [])) = allocate_both x g (some (a ∷ l)) (some []) c d same in cc
+  list_both x g [] (b ∷ m) c d same = let p : answered (given 0 (Some [])) ≡ answered (given 0 (Some (b ∷ m))) = allocate_both x g (Some []) (Some (b ∷ m)) c d same in cc
+  list_both x g (a ∷ l) [] c d same = let p : answered (given 0 (Some (a ∷ l))) ≡ answered (given 0 (Some [])) = allocate_both x g (Some (a ∷ l)) (Some []) c d same in cc
   list_both x g (a ∷ l) (b ∷ m) c d same =
-      ap₂ ◌∷◌ (head_told a b (allocate_both x g (some (a ∷ l)) (some (b ∷ m)) c d same)) (list_both x g l m (taking a c) (taking b d) (allocated_both x g a b l m c d same))
+      ap₂ ◌∷◌ (head_told a b (allocate_both x g (Some (a ∷ l)) (Some (b ∷ m)) c d same)) (list_both x g l m (taking a c) (taking b d) (allocated_both x g a b l m c d same))
 
   hand_out_both : (x : State) → Shows x → (l m : Option (List ℕ)) (c d : Connection) → Same role S (at x l c) (at x m d) → l ≡ m
-  hand_out_both x g none none c d same = refl
-  hand_out_both x g none (some m) c d same = absent_told m (allocate_both x g none (some m) c d same)
-  hand_out_both x g (some l) none c d same = sym (absent_told l (sym (allocate_both x g (some l) none c d same)))
-  hand_out_both x g (some l) (some m) c d same = ap some (list_both x g l m c d same)
+  hand_out_both x g None None c d same = refl
+  hand_out_both x g None (Some m) c d same = absent_told m (allocate_both x g None (Some m) c d same)
+  hand_out_both x g (Some l) None c d same = sym (absent_told l (sym (allocate_both x g (Some l) None c d same)))
+  hand_out_both x g (Some l) (Some m) c d same = ap Some (list_both x g l m c d same)
 
 -- ---- the account
 
@@ -286,11 +286,11 @@ shown HeaderSent a b p = refl
 shown HeaderExchange a b p = refl
 shown OpenPipe a b p = refl
 shown OpenClosePipe a b p = refl
-shown OpenReceived a b p = ap some (p in_received)
+shown OpenReceived a b p = ap Some (p in_received)
 shown OpenSent a b p = refl
 shown ClosePipe a b p = refl
-shown Opened a b p = ap some (p in_opened_lem)
-shown CloseReceived a b p = ap some (p in_closing)
+shown Opened a b p = ap Some (p in_opened_lem)
+shown CloseReceived a b p = ap Some (p in_closing)
 shown CloseSent a b p = refl
 shown Discarding a b p = refl
 shown End a b p = refl
@@ -305,7 +305,7 @@ shown_ties OpenClosePipe l m c d p = refl
 shown_ties OpenReceived l m c d p = refl
 shown_ties OpenSent l m c d p = refl
 shown_ties ClosePipe l m c d p = refl
-shown_ties Opened l m c d p = ap some (p refl)
+shown_ties Opened l m c d p = ap Some (p refl)
 shown_ties CloseReceived l m c d p = refl
 shown_ties CloseSent l m c d p = refl
 shown_ties Discarding l m c d p = refl

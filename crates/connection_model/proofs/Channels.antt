@@ -4,7 +4,7 @@
 use mathlib.Core.Path.{◌≡◌, refl, ◌∙◌, ap, subst}
 use mathlib.Core.Bool.{not}
 use mathlib.Core.List.{List, [], ◌∷◌, ◌++◌}
-use mathlib.Core.Option.{Option, none, some}
+use Rattle.std.specs.Prelude.{Option, None, Some}
 use Prim.Native.Nat.{ℕ, zero, suc, ◌-◌, ◌≤◌}
 use native.Mathlib.Omega.{arith}
 use lib.Dec.{T}
@@ -37,27 +37,27 @@ module _ (role : Role) (S : Settings) where
 
   -- as many handles as the hand-out list has numbers get these, in its order; the next handle is refused with 23
   pub allocating :
-      (l hs : List ℕ) (h : ℕ) (c : Connection) → T (not (is_one_of stopped c.state)) → c.hand_out ≡ some l → length hs ≡ length l
+      (l hs : List ℕ) (h : ℕ) (c : Connection) → T (not (is_one_of stopped c.state)) → c.hand_out ≡ Some l → length hs ≡ length l
       → answers_of (seen_in role S c (allocate_all hs ++ (allocate h ∷ []))) ≡ channels_given l ++ (refuse 23 ∷ [])
-  allocating [] [] h c t e n = ap (λ v. answered v ∷ []) (decide_allocate c h t (some []) e)
+  allocating [] [] h c t e n = ap (λ v. answered v ∷ []) (decide_allocate c h t (Some []) e)
   allocating [] (k ∷ hs) h c t e n = let z : ⊥ = omega arith in absurd z
   allocating (ch ∷ l) [] h c t e n = let z : ⊥ = omega arith in absurd z
   allocating (ch ∷ l) (k ∷ hs) h c t e n =
-      ap (λ v. answered v ∷ answers_of (seen_in role S (after S v c) (allocate_all hs ++ (allocate h ∷ [])))) (decide_allocate c k t (some (ch ∷ l)) e)
+      ap (λ v. answered v ∷ answers_of (seen_in role S (after S v c) (allocate_all hs ++ (allocate h ∷ [])))) (decide_allocate c k t (Some (ch ∷ l)) e)
       ∙ ap (λ ss. accept (channel ch) ∷ ss) (allocating l hs h (apply S (take ch l k) c) t refl (omega arith))
 
   -- ---- deallocating
 
   -- a freed channel takes along the ties that were made through it, and no others
-  pub deallocate_ties : (c : Connection) (ch h : ℕ) → c.taken ch ≡ some h → (next role S c (deallocate ch)).ties ≡ dropped ch c.ties
+  pub deallocate_ties : (c : Connection) (ch h : ℕ) → c.taken ch ≡ Some h → (next role S c (deallocate ch)).ties ≡ dropped ch c.ties
   deallocate_ties c ch h e = ap (λ o. (after S (released ch o) c).ties) e
 
   -- where it is not taken, all ties stay
-  pub untaken_ties : (c : Connection) (ch : ℕ) → c.taken ch ≡ none → (next role S c (deallocate ch)).ties ≡ c.ties
+  pub untaken_ties : (c : Connection) (ch : ℕ) → c.taken ch ≡ None → (next role S c (deallocate ch)).ties ≡ c.ties
   untaken_ties c ch e = ap (λ o. (after S (released ch o) c).ties) e
 
   -- a freed number is the next that is given
-  pub deallocate_first : (c : Connection) (ch h : ℕ) (l : List ℕ) → c.taken ch ≡ some h → c.hand_out ≡ some l → (next role S c (deallocate ch)).hand_out ≡ some (ch ∷ l)
+  pub deallocate_first : (c : Connection) (ch h : ℕ) (l : List ℕ) → c.taken ch ≡ Some h → c.hand_out ≡ Some l → (next role S c (deallocate ch)).hand_out ≡ Some (ch ∷ l)
   deallocate_first c ch h l e p = ap (λ o. (after S (released ch o) c).hand_out) e ∙ ap (freed_first ch) p
 
 -- ---- the order of the list
@@ -97,29 +97,29 @@ pool_in role S c p [] = p
 pool_in role S c p (call ∷ calls) = pool_in role S (next role S c call) (pool_after (decide role S c call) p) calls
 
 abbrev pub Ordered : Option ℕ → Option (List ℕ) → Pool → Type 0
-Ordered none l p = Unit {0}
-Ordered (some m) none p = Unit {0}
-Ordered (some m) (some l) p = (l ≡ numbers m p) × (p.unused ≤ suc m)
+Ordered None l p = Unit {0}
+Ordered (Some m) None p = Unit {0}
+Ordered (Some m) (Some l) p = (l ≡ numbers m p) × (p.unused ≤ suc m)
 
 drawn_new : (m n ch : ℕ) (rest : List ℕ) (k : ℕ) → suc m - n ≡ k → ch ∷ rest ≡ up_from n k → n ≤ suc m → (rest ≡ up_from (suc n) (suc m - suc n)) × (suc n ≤ suc m)
 drawn_new m n ch rest zero d e u = let z : ◌≡◌ {A = ℕ} 0 1 = cc in absurd (omega arith)
 drawn_new m n ch rest (suc k) d e u = let q : rest ≡ up_from (suc n) k = cc in let r : k ≡ suc m - suc n = omega arith in (q ∙ ap (up_from (suc n)) r, omega arith)
 
-drawn_ordered : (m ch : ℕ) (rest fs : List ℕ) (n : ℕ) → Ordered (some m) (some (ch ∷ rest)) (pool fs n) → Ordered (some m) (some rest) (drawn fs n)
+drawn_ordered : (m ch : ℕ) (rest fs : List ℕ) (n : ℕ) → Ordered (Some m) (Some (ch ∷ rest)) (pool fs n) → Ordered (Some m) (Some rest) (drawn fs n)
 drawn_ordered m ch rest [] n i = drawn_new m n ch rest (suc m - n) refl i.0 i.1
 drawn_ordered m ch rest (f ∷ fs) n i = let e : ch ∷ rest ≡ f ∷ numbers m (pool fs n) = i.0 in (cc, i.1)
 
-ordered_take : (a : Option ℕ) (l : Option (List ℕ)) (p : Pool) (ch : ℕ) (rest : List ℕ) → l ≡ some (ch ∷ rest) → Ordered a l p → Ordered a (some rest) (drawn p.freed_numbers p.unused)
+ordered_take : (a : Option ℕ) (l : Option (List ℕ)) (p : Pool) (ch : ℕ) (rest : List ℕ) → l ≡ Some (ch ∷ rest) → Ordered a l p → Ordered a (Some rest) (drawn p.freed_numbers p.unused)
 ordered_take a l p ch rest e i = among a (subst (λ o. Ordered a o p) e i)
   where
-    among : (b : Option ℕ) → Ordered b (some (ch ∷ rest)) p → Ordered b (some rest) (drawn p.freed_numbers p.unused)
-    among none j = tt
-    among (some m) j = drawn_ordered m ch rest p.freed_numbers p.unused j
+    among : (b : Option ℕ) → Ordered b (Some (ch ∷ rest)) p → Ordered b (Some rest) (drawn p.freed_numbers p.unused)
+    among None j = tt
+    among (Some m) j = drawn_ordered m ch rest p.freed_numbers p.unused j
 
 ordered_give : (a : Option ℕ) (l : Option (List ℕ)) (p : Pool) (ch : ℕ) → Ordered a l p → Ordered a (freed_first ch l) (pool (ch ∷ p.freed_numbers) p.unused)
-ordered_give none l p ch i = tt
-ordered_give (some m) none p ch i = tt
-ordered_give (some m) (some l) p ch i = (ap (λ s. ch ∷ s) i.0, i.1)
+ordered_give None l p ch i = tt
+ordered_give (Some m) None p ch i = tt
+ordered_give (Some m) (Some l) p ch i = (ap (λ s. ch ∷ s) i.0, i.1)
 
 module _ (H : ℕ → Type 0) (S : Settings) where
   ordered_keeps : (e : Effect) (c : Connection) (p : Pool) → Legit H S c e → Ordered c.agreed_max c.hand_out p → Ordered (apply S e c).agreed_max (apply S e c).hand_out (pooled e p)
@@ -142,12 +142,12 @@ module _ (role : Role) (S : Settings) where
       ordered_run calls (next role S c call) (pool_after (decide role S c call) p)
       (ordered_after (λ h. Unit {0}) S c p (lawful (λ h. Unit {0}) role S c call (lends_any call)) i)
 
-  ordered_list : (a : Option ℕ) (o : Option (List ℕ)) (p : Pool) → Ordered a o p → (m : ℕ) (l : List ℕ) → a ≡ some m → o ≡ some l → l ≡ numbers m p
-  ordered_list a o p i m l e q = (subst (λ b. Ordered b (some l) p) e (subst (λ b. Ordered a b p) q i)).0
+  ordered_list : (a : Option ℕ) (o : Option (List ℕ)) (p : Pool) → Ordered a o p → (m : ℕ) (l : List ℕ) → a ≡ Some m → o ≡ Some l → l ≡ numbers m p
+  ordered_list a o p i m l e q = (subst (λ b. Ordered b (Some l) p) e (subst (λ b. Ordered a b p) q i)).0
 
   -- the hand-out list is the freed numbers, latest first, and then the never-used ones, ascending to the agreed channel-max
   pub hand_out_order :
-      (calls : List Call) (m : ℕ) (l : List ℕ) → (run role S fresh calls).agreed_max ≡ some m → (run role S fresh calls).hand_out ≡ some l
+      (calls : List Call) (m : ℕ) (l : List ℕ) → (run role S fresh calls).agreed_max ≡ Some m → (run role S fresh calls).hand_out ≡ Some l
       → l ≡ numbers m (pool_in role S fresh (pool [] 0) calls)
   hand_out_order calls m l e q =
       ordered_list (run role S fresh calls).agreed_max (run role S fresh calls).hand_out (pool_in role S fresh (pool [] 0) calls)

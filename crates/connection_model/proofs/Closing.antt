@@ -4,7 +4,7 @@ use mathlib.Core.Path.{◌≡◌, refl, sym, subst}
 use mathlib.Core.Logic.{◌⊎◌, inl, inr}
 use mathlib.Core.Bool.{Bool, true, false, cond, not, ◌&&◌, ◌||◌}
 use mathlib.Core.List.{List, [], ◌∷◌}
-use mathlib.Core.Option.{Option, none, some}
+use Rattle.std.specs.Prelude.{Option, None, Some}
 use Prim.Native.Nat.{ℕ}
 use lib.Dec.{T, eqb}
 use Rattle.octets.specs.Verdict.{Verdict, refuse, accept}
@@ -155,22 +155,22 @@ module _ (role : Role) (S : Settings) (c : Connection) where
   on_headed (other h) = on_and_then _ _ (moved false false true receive_other_header tt c.state) (λ x g. holds g)
 
   on_tie_to : (f : Frame) (n : ℕ) (o : Option ℕ) → Fine false (tie_to f n o)
-  on_tie_to f n none = refused
-  on_tie_to f n (some h) = holds (λ w r o t. t)
+  on_tie_to f n None = refused
+  on_tie_to f n (Some h) = holds (λ w r o t. t)
 
   on_untie : (f : Frame) (o : Option Tie) → Fine false (untie f o)
-  on_untie f none = refused
-  on_untie f (some h) = holds (λ w r o t. t)
+  on_untie f None = refused
+  on_untie f (Some h) = holds (λ w r o t. t)
 
   on_pass_on : (f : Frame) (code : ℕ) (o : Option Tie) → Fine false (pass_on f code o)
-  on_pass_on f code none = refused
-  on_pass_on f code (some h) = holds (λ w r o t. t)
+  on_pass_on f code None = refused
+  on_pass_on f code (Some h) = holds (λ w r o t. t)
 
   on_new_session : (ρ : Role) (f : Frame) (h : ℕ) (l : Option (List ℕ)) → Fine false (new_session ρ f h l)
   on_new_session dialler f h l = refused
-  on_new_session listener f h none = refused
-  on_new_session listener f h (some []) = refused
-  on_new_session listener f h (some (ch ∷ rest)) = holds (λ w r o t. t)
+  on_new_session listener f h None = refused
+  on_new_session listener f h (Some []) = refused
+  on_new_session listener f h (Some (ch ∷ rest)) = holds (λ w r o t. t)
 
   on_begun : (f : Frame) (h : ℕ) (rs : List ℕ) → Fine false (begun role c f h rs)
   on_begun f h [] = on_new_session role f h c.hand_out
@@ -186,18 +186,18 @@ module _ (role : Role) (S : Settings) (c : Connection) where
       (on_cond _ (eqb p.code 23) _ _ (λ t. on_untie f (c.ties f.channel)) (on_pass_on f p.code (c.ties f.channel)))))))
 
   on_frame : (h : ℕ) (q : Frame × Option Performative) → Fine false (frame_read role S c h q)
-  on_frame h (f, none) = holds (λ w r o t. t)
-  on_frame h (f, some p) = on_performative f h p
+  on_frame h (f, None) = holds (λ w r o t. t)
+  on_frame h (f, Some p) = on_performative f h p
 
   on_closes : (e : Option ErrorText) → Holds (λ y. Tells c.state y true false false) (closes e c.state)
-  on_closes none = moved true false false send_close tt c.state
-  on_closes (some e) = moved true false false send_close_with_error tt c.state
+  on_closes None = moved true false false send_close tt c.state
+  on_closes (Some e) = moved true false false send_close_with_error tt c.state
 
   on_tied_by : (ρ : Role) (rs : List ℕ) (n : ℕ) (o : Option ℕ) → Holds (λ e. (apply S e c).state ≡ c.state) (tied_by ρ rs n o)
   on_tied_by dialler rs n o = holds refl
   on_tied_by listener [] n o = holds refl
-  on_tied_by listener (r ∷ rs) n none = refused
-  on_tied_by listener (r ∷ rs) n (some h) = holds refl
+  on_tied_by listener (r ∷ rs) n None = refused
+  on_tied_by listener (r ∷ rs) n (Some h) = holds refl
 
   on_sent : (s : List ℕ) (q : Frame × Performative) → Fine false (session_sent role c s q)
   on_sent s q =
@@ -206,13 +206,13 @@ module _ (role : Role) (S : Settings) (c : Connection) where
       on_any _ (limited c.writing_limit (session_bytes s q)) _ (λ bytes. holds (λ w r o t. subst (λ y. T (tells y w r o)) (sym same) t))))
 
   on_given : (h : ℕ) (l : Option (List ℕ)) → Fine false (given h l)
-  on_given h none = refused
-  on_given h (some []) = refused
-  on_given h (some (ch ∷ rest)) = holds (λ w r o t. t)
+  on_given h None = refused
+  on_given h (Some []) = refused
+  on_given h (Some (ch ∷ rest)) = holds (λ w r o t. t)
 
   on_released : (ch : ℕ) (o : Option ℕ) → Fine false (released ch o)
-  on_released ch none = refused
-  on_released ch (some h) = holds (λ w r o t. t)
+  on_released ch None = refused
+  on_released ch (Some h) = holds (λ w r o t. t)
 
   on_call : (call : Call) → Fine (sends_close call) (decide role S c call)
   on_call (send_header_to out) = on_require _ _ _ _ (λ t. on_and_then _ _ (moved false false false send_header tt c.state) (λ x g. holds g))

@@ -4,7 +4,7 @@ use mathlib.Core.Path.{◌≡◌, refl, sym, ◌∙◌, ap, subst, fun_ext}
 use mathlib.Core.Logic.{◌↔◌}
 use mathlib.Core.Bool.{Bool, true, false, cond, not}
 use mathlib.Core.List.{List, [], ◌∷◌, ◌++◌}
-use mathlib.Core.Option.{Option, none, some}
+use Rattle.std.specs.Prelude.{Option, None, Some}
 use Prim.Native.Nat.{ℕ, zero, suc, ◌+◌, ◌^◌, ◌≤◌, ◌<◌, min}
 use native.Mathlib.Omega.{arith}
 use native.Mathlib.Decide.{ℕ_discrete, dec_le}
@@ -40,7 +40,7 @@ open_with w m = 0 ∷ 0x53 ∷ 0x10 ∷ 0xc0 ∷ 12 ∷ 4 ∷ 0xa1 ∷ 0 ∷ 0x4
 opened_with : ℕ → ℕ → Performative
 opened_with w m = read 16 ((0xa1 ∷ 0 ∷ []) ∷ (0x40 ∷ []) ∷ (0x70 ∷ bytes_of 4 w) ∷ (0x60 ∷ bytes_of 2 m) ∷ []) 6 17
 
-open_content : (w m : ℕ) → content (open_with w m) ≡ accept (some (opened_with w m))
+open_content : (w m : ℕ) → content (open_with w m) ≡ accept (Some (opened_with w m))
 unfolding open_with opened_with bytes_of content performative performative_by fields_by described descriptor require and_then starts_with value_end run_of level after_code kind_of kind_in codes times followed_by plus body bytes number_of big_endian big_endian_from list_at sized opening number_in paired_in fields_of fields_in rows_for split variable_end fit fits has_type
 open_content w m = refl
 
@@ -63,7 +63,7 @@ begin_for r = 0 ∷ 0x53 ∷ 0x11 ∷ 0xc0 ∷ 7 ∷ 4 ∷ 0x60 ∷ bytes_of 2 r
 begun_for : ℕ → Performative
 begun_for r = read 17 ((0x60 ∷ bytes_of 2 r) ∷ (0x43 ∷ []) ∷ (0x43 ∷ []) ∷ (0x43 ∷ []) ∷ []) 6 12
 
-begin_content : (r : ℕ) → content (begin_for r) ≡ accept (some (begun_for r))
+begin_content : (r : ℕ) → content (begin_for r) ≡ accept (Some (begun_for r))
 unfolding begin_for begun_for bytes_of content performative performative_by fields_by described descriptor require and_then starts_with value_end run_of level after_code kind_of kind_in codes times followed_by plus body bytes number_of big_endian big_endian_from list_at sized opening number_in paired_in fields_of fields_in rows_for split variable_end fit fits has_type
 begin_content r = refl
 
@@ -78,15 +78,15 @@ begin_channel r h = ap (λ n. n ∷ []) (bytes_number 2 r h)
 -- ---- maps
 
 or_zero : Option ℕ → ℕ
-or_zero none = 0
-or_zero (some h) = h
+or_zero None = 0
+or_zero (Some h) = h
 
 -- a map below k, and the same with a handle for each number
 abbrev cut : {A : Type 0} → MapTo A → ℕ → MapTo A
-cut f k n = cond (ltb n k) (f n) none
+cut f k n = cond (ltb n k) (f n) None
 
 abbrev filled : Map → ℕ → Map
-filled f k = cut (λ n. some (or_zero (f n))) k
+filled f k = cut (λ n. Some (or_zero (f n))) k
 
 cut_none : {A : Type 0} (f : MapTo A) → nowhere ≡ cut f 0
 cut_none f = fun_ext (λ n. rw (le-ltb n 0 (omega arith)))
@@ -102,7 +102,7 @@ cut_more f k = fun_ext (λ n. elim (ℕ_discrete k n) [
 ])
 
 -- a number that has nothing
-cut_same : {A : Type 0} (f : MapTo A) (k : ℕ) → f k ≡ none → cut f k ≡ cut f (suc k)
+cut_same : {A : Type 0} (f : MapTo A) (k : ℕ) → f k ≡ None → cut f k ≡ cut f (suc k)
 cut_same f k e = fun_ext (λ n. elim (ℕ_discrete k n) [
   | yes q ↦ rw (le-ltb n k (omega arith), lt-ltb n (suc k) (omega arith)) (sym (sym (ap f q) ∙ e))
   | no q ↦ elim (dec_le k n) [
@@ -112,65 +112,65 @@ cut_same f k e = fun_ext (λ n. elim (ℕ_discrete k n) [
 ])
 
 -- all that a map has is below k
-cut_all : {A : Type 0} (f : MapTo A) (k : ℕ) → ((n : ℕ) (a : A) → f n ≡ some a → n < k) → cut f k ≡ f
+cut_all : {A : Type 0} (f : MapTo A) (k : ℕ) → ((n : ℕ) (a : A) → f n ≡ Some a → n < k) → cut f k ≡ f
 cut_all {A} f k below = fun_ext (λ n. at n (f n) refl)
   where
     at : (n : ℕ) (o : Option A) → f n ≡ o → cut f k n ≡ f n
-    at n none e = elim (dec_le k n) [
+    at n None e = elim (dec_le k n) [
       | yes l ↦ rw (le-ltb n k l) (sym e)
       | no l ↦ rw (lt-ltb n k (omega arith))
     ]
-    at n (some a) e = rw (lt-ltb n k (below n a e))
+    at n (Some a) e = rw (lt-ltb n k (below n a e))
 
 -- the numbers of a list are freed
 freed : List ℕ → Map → Map
 freed [] f = f
-freed (x ∷ l) f = with (freed l f) x none
+freed (x ∷ l) f = with (freed l f) x None
 
 freed_out : (l : List ℕ) (f : Map) (n : ℕ) → count n l ≡ 0 → freed l f n ≡ f n
 unfolding freed
 freed_out [] f n e = refl
 freed_out (x ∷ l) f n e = at (eqb x n) e (freed_out l f n)
   where
-    at : (b : Bool) → one b + count n l ≡ 0 → (count n l ≡ 0 → freed l f n ≡ f n) → cond b none (freed l f n) ≡ f n
+    at : (b : Bool) → one b + count n l ≡ 0 → (count n l ≡ 0 → freed l f n ≡ f n) → cond b None (freed l f n) ≡ f n
     at true q h = absurd (omega arith)
     at false q h = h (omega arith)
 
-freed_in : (l : List ℕ) (f : Map) (n : ℕ) → 1 ≤ count n l → freed l f n ≡ none
+freed_in : (l : List ℕ) (f : Map) (n : ℕ) → 1 ≤ count n l → freed l f n ≡ None
 unfolding freed
 freed_in [] f n h = absurd (omega arith)
 freed_in (x ∷ l) f n h = at (eqb x n) h (freed_in l f n)
   where
-    at : (b : Bool) → 1 ≤ one b + count n l → (1 ≤ count n l → freed l f n ≡ none) → cond b none (freed l f n) ≡ none
+    at : (b : Bool) → 1 ≤ one b + count n l → (1 ≤ count n l → freed l f n ≡ None) → cond b None (freed l f n) ≡ None
     at true q k = refl
     at false q k = k (omega arith)
 
-taken_some : (o : Option ℕ) → is_taken o ≡ 1 → (h : ℕ) × (o ≡ some h)
-taken_some none e = absurd (omega arith)
-taken_some (some h) e = (h, refl)
+taken_some : (o : Option ℕ) → is_taken o ≡ 1 → (h : ℕ) × (o ≡ Some h)
+taken_some None e = absurd (omega arith)
+taken_some (Some h) e = (h, refl)
 
-taken_none : (o : Option ℕ) → is_taken o ≡ 0 → o ≡ none
-taken_none none e = refl
-taken_none (some h) e = absurd (omega arith)
+taken_none : (o : Option ℕ) → is_taken o ≡ 0 → o ≡ None
+taken_none None e = refl
+taken_none (Some h) e = absurd (omega arith)
 
-handle_back : (o : Option ℕ) → is_taken o ≡ 1 → some (or_zero o) ≡ o
+handle_back : (o : Option ℕ) → is_taken o ≡ 1 → Some (or_zero o) ≡ o
 unfolding or_zero
-handle_back none e = absurd (omega arith)
-handle_back (some h) e = refl
+handle_back None e = absurd (omega arith)
+handle_back (Some h) e = refl
 
 -- ---- with it
 
 module _ (role : Role) (S : Settings) where
   abbrev holding : State → ℕ → ℕ → List ℕ → Map → Ties → Connection
-  holding x w m l tk ti = connection x S.max_frame_size w (some m) (some l) tk ti
+  holding x w m l tk ti = connection x S.max_frame_size w (Some m) (Some l) tk ti
 
   -- while nothing is tied
   module _ (x : State) (w m : ℕ) where
-    taking : is_one_of stopped x ≡ false → (ch : ℕ) (l : List ℕ) (tk : Map) (h : ℕ) → Led role S (holding x w m (ch ∷ l) tk nowhere) (holding x w m l (with tk ch (some h)) nowhere)
+    taking : is_one_of stopped x ≡ false → (ch : ℕ) (l : List ℕ) (tk : Map) (h : ℕ) → Led role S (holding x w m (ch ∷ l) tk nowhere) (holding x w m l (with tk ch (Some h)) nowhere)
     taking going ch l tk h =
         by role S (holding x w m (ch ∷ l) tk nowhere) (allocate h) (ap (λ v. after S v (holding x w m (ch ∷ l) tk nowhere)) (require_on 22 (not (is_one_of stopped x)) _ (ap not going)))
 
-    freeing : (ch : ℕ) (l : List ℕ) (tk : Map) (h : ℕ) → tk ch ≡ some h → Led role S (holding x w m l tk nowhere) (holding x w m (ch ∷ l) (with tk ch none) nowhere)
+    freeing : (ch : ℕ) (l : List ℕ) (tk : Map) (h : ℕ) → tk ch ≡ Some h → Led role S (holding x w m l tk nowhere) (holding x w m (ch ∷ l) (with tk ch None) nowhere)
     freeing ch l tk h e = by role S (holding x w m l tk nowhere) (deallocate ch) (ap (λ o. after S (released ch o) (holding x w m l tk nowhere)) e)
 
     -- every number from k on is taken
@@ -178,7 +178,7 @@ module _ (role : Role) (S : Settings) where
     filling going f zero k j e = let q : k ≡ j = omega arith in subst (λ i. Led role S (holding x w m [] (filled f k) nowhere) (holding x w m [] (filled f i) nowhere)) q (here role S _)
     filling going f (suc n) k j e =
         on role S (taking going k (up_from (suc k) n) (filled f k) (or_zero (f k)))
-        (subst (λ t. Led role S (holding x w m (up_from (suc k) n) t nowhere) (holding x w m [] (filled f j) nowhere)) (sym (cut_more (λ i. some (or_zero (f i))) k)) (filling going f n (suc k) j (omega arith)))
+        (subst (λ t. Led role S (holding x w m (up_from (suc k) n) t nowhere) (holding x w m [] (filled f j) nowhere)) (sym (cut_more (λ i. Some (or_zero (f i))) k)) (filling going f n (suc k) j (omega arith)))
 
     -- those of a list are freed, the last first
     giving : (f : Map) (l : List ℕ) → ((n : ℕ) → count n l ≤ 1) → ((n : ℕ) → 1 ≤ count n l → is_taken (f n) ≡ 1) → Led role S (holding x w m [] f nowhere) (holding x w m l (freed l f) nowhere)
@@ -196,7 +196,7 @@ module _ (role : Role) (S : Settings) where
     sharing : is_one_of stopped x ≡ false → (l : List ℕ) (tk : Map) → EachOnce m l tk → Led role S (holding x w m (up_from 0 (suc m)) nowhere nowhere) (holding x w m l tk nowhere)
     sharing going l tk i =
         on role S
-        (subst (λ t. Led role S (holding x w m (up_from 0 (suc m)) t nowhere) (holding x w m [] (filled tk (suc m)) nowhere)) (sym (cut_none (λ n. some (or_zero (tk n))))) (filling going tk (suc m) 0 (suc m) (omega arith)))
+        (subst (λ t. Led role S (holding x w m (up_from 0 (suc m)) t nowhere) (holding x w m [] (filled tk (suc m)) nowhere)) (sym (cut_none (λ n. Some (or_zero (tk n))))) (filling going tk (suc m) 0 (suc m) (omega arith)))
         (subst (λ t. Led role S (holding x w m [] (filled tk (suc m)) nowhere) (holding x w m l t nowhere)) (fun_ext is_taken_lem)
         (giving (filled tk (suc m)) l (λ n. omega (arith, i n, one_small (leb n m))) all_filled))
       where
@@ -222,8 +222,8 @@ module _ (role : Role) (S : Settings) where
         ]
 
   -- a Begin on a channel ties it through the channel that it names
-  tying : (w m : ℕ) (l : List ℕ) (tk : Map) (ti : Ties) (n r h : ℕ) → 512 ≤ S.max_frame_size → n ≤ S.channel_max → n < 65536 → r < 65536 → tk r ≡ some h
-      → Led role S (holding Opened w m l tk ti) (holding Opened w m l tk (with ti n (some (tie_of r h))))
+  tying : (w m : ℕ) (l : List ℕ) (tk : Map) (ti : Ties) (n r h : ℕ) → 512 ≤ S.max_frame_size → n ≤ S.channel_max → n < 65536 → r < 65536 → tk r ≡ Some h
+      → Led role S (holding Opened w m l tk ti) (holding Opened w m l tk (with ti n (Some (tie_of r h))))
   unfolding and_then require begun_for
   tying w m l tk ti n r h size le low few e =
       let c = holding Opened w m l tk ti in
@@ -235,15 +235,15 @@ module _ (role : Role) (S : Settings) where
       ∙ ap (λ o. after S (tie_to f r o) c) e)
 
   -- the ties of the channels below k, one after the other
-  tying_all : (w m : ℕ) (l : List ℕ) (tk : Map) (ti : Ties) → 512 ≤ S.max_frame_size → S.channel_max < 65536 → ((n h : ℕ) → tk n ≡ some h → n < 65536) → TiedThrough tk ti
+  tying_all : (w m : ℕ) (l : List ℕ) (tk : Map) (ti : Ties) → 512 ≤ S.max_frame_size → S.channel_max < 65536 → ((n h : ℕ) → tk n ≡ Some h → n < 65536) → TiedThrough tk ti
       → (k : ℕ) → k ≤ suc S.channel_max → Led role S (holding Opened w m l tk nowhere) (holding Opened w m l tk (cut ti k))
   tying_all w m l tk ti size few low through zero le =
       subst (λ t. Led role S (holding Opened w m l tk nowhere) (holding Opened w m l tk t)) (cut_none ti) (here role S _)
   tying_all w m l tk ti size few low through (suc k) le = on role S (tying_all w m l tk ti size few low through k (omega arith)) (at (ti k) refl)
     where
       at : (o : Option Tie) → ti k ≡ o → Led role S (holding Opened w m l tk (cut ti k)) (holding Opened w m l tk (cut ti (suc k)))
-      at none e = subst (λ t. Led role S (holding Opened w m l tk (cut ti k)) (holding Opened w m l tk t)) (cut_same ti k e) (here role S _)
-      at (some t) e =
+      at None e = subst (λ t. Led role S (holding Opened w m l tk (cut ti k)) (holding Opened w m l tk t)) (cut_same ti k e) (here role S _)
+      at (Some t) e =
           let held = through k t e in
           subst (λ u. Led role S (holding Opened w m l tk (cut ti k)) (holding Opened w m l tk u)) (ap (with (cut ti k) k) (sym e) ∙ cut_more ti k)
           (tying w m l tk (cut ti k) k t.outgoing t.handle size (omega arith) (omega arith) (low t.outgoing t.handle held) held)
@@ -293,9 +293,9 @@ module _ (role : Role) (S : Settings) where
 
 -- ---- all of them
 
-listed : (m : ℕ) (o : Option (List ℕ)) (tk : Map) → Shared (some m) o tk → (l : List ℕ) × (o ≡ some l) × EachOnce m l tk
-listed m none tk i = absurd i
-listed m (some l) tk i = (l, refl, i)
+listed : (m : ℕ) (o : Option (List ℕ)) (tk : Map) → Shared (Some m) o tk → (l : List ℕ) × (o ≡ Some l) × EachOnce m l tk
+listed m None tk i = absurd i
+listed m (Some l) tk i = (l, refl, i)
 
 module _ (role : Role) (S : Settings) (ok : settings_ok S.container_id S.max_frame_size S.channel_max ≡ true) where
   pub every_reached : (c : Connection) → Reached S c → Led role S fresh c

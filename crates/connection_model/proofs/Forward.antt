@@ -5,7 +5,7 @@ use mathlib.Core.Path.{◌≡◌, refl, sym, ◌∙◌, ap, ap₂, subst, fun_ex
 use mathlib.Core.Logic.{◌⊎◌, inl, inr, ⊎_elim}
 use mathlib.Core.Bool.{Bool, true, false, cond, not, ◌||◌}
 use mathlib.Core.List.{List, [], ◌∷◌}
-use mathlib.Core.Option.{Option, none, some}
+use Rattle.std.specs.Prelude.{Option, None, Some}
 use Prim.Native.Nat.{ℕ, ◌≤◌}
 use native.Mathlib.Omega.{arith}
 use lib.Dec.{T, leb, eqb, leb→le, eqb→eq}
@@ -71,8 +71,8 @@ module _ (x : State) (r : ℕ) (tk : Map) (w w' : ℕ) (m m' : Option ℕ) (l l'
       (same_begun f h rs v) (tied u))
 
   same_frame : (h : ℕ) (q : Frame × Option Performative) → frame_read role S here h q ≡ frame_read role S there h q
-  same_frame h (f, none) = refl
-  same_frame h (f, some p) =
+  same_frame h (f, None) = refl
+  same_frame h (f, Some p) =
       ap (λ v. cond (eqb p.code 24) (close_read here f (has_error (condition 0 p))) (cond (is Discarding x) (says (nothing_to_do f.size) stay) (cond (eqb p.code 16) (open_read S here f (max_frame_size p) (channel_max p) (idle_time_out p)) v)))
       (same_session f h p.code (remote_channel p))
 
@@ -88,8 +88,8 @@ module _ (x : State) (r : ℕ) (tk : Map) (w w' : ℕ) (m m' : Option ℕ) (l l'
 
   -- no frame is written where a table leads no further
   going : (e : Option ErrorText) → Holds (λ y. T (leb (stage x) 3)) (closes e x)
-  going none = on_along (λ a b. leb (stage a) 3) send_close tt x
-  going (some e) = on_along (λ a b. leb (stage a) 3) send_close_with_error tt x
+  going None = on_along (λ a b. leb (stage a) 3) send_close tt x
+  going (Some e) = on_along (λ a b. leb (stage a) 3) send_close_with_error tt x
 
   pub same_verdict : (call : Call) → decide role S here call ≡ decide role S there call
   same_verdict (send_header_to out) = refl
@@ -144,7 +144,7 @@ module _ (role : Role) (S : Settings) where
   alike_effect H (take ch rest h) l a = record {
     state = a.state;
     reading = a.reading;
-    taken = ap (λ f. with f ch (some h)) a.taken;
+    taken = ap (λ f. with f ch (Some h)) a.taken;
     writing = a.writing;
     list = λ u. refl;
     tied = a.tied;
@@ -152,7 +152,7 @@ module _ (role : Role) (S : Settings) where
   alike_effect H (give ch) l a = record {
     state = a.state;
     reading = a.reading;
-    taken = ap (λ f. with f ch none) a.taken;
+    taken = ap (λ f. with f ch None) a.taken;
     writing = a.writing;
     list = λ u. ap (freed_first ch) (a.list u);
     tied = λ u. ap (dropped ch) (a.tied u);
@@ -168,10 +168,10 @@ module _ (role : Role) (S : Settings) where
   alike_effect H (take_and_tie ch rest h n) l a = record {
     state = a.state;
     reading = a.reading;
-    taken = ap (λ f. with f ch (some h)) a.taken;
+    taken = ap (λ f. with f ch (Some h)) a.taken;
     writing = a.writing;
     list = λ u. refl;
-    tied = λ u. ap (λ f. with f n (some (tie_of ch h))) (a.tied u);
+    tied = λ u. ap (λ f. with f n (Some (tie_of ch h))) (a.tied u);
   }
 
   alike_after : (H : ℕ → Type 0) {c d : Connection} {v : Verdict Outcome} → Holds (Lawful H S c) v → Alike c d → Alike (after S v c) (after S v d)

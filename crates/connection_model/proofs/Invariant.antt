@@ -3,7 +3,7 @@
 use mathlib.Core.Path.{◌≡◌, refl, sym, ◌∙◌, ap, subst}
 use mathlib.Core.Bool.{Bool, true, false, cond, ◌||◌}
 use mathlib.Core.List.{List, [], ◌∷◌}
-use mathlib.Core.Option.{Option, none, some}
+use Rattle.std.specs.Prelude.{Option, None, Some}
 use Prim.Native.Nat.{ℕ, suc, ◌≤◌}
 use native.Mathlib.Omega.{arith}
 use lib.Dec.{T, leb, eqb, eqb→eq}
@@ -21,13 +21,13 @@ use Rattle.channels.proofs.Numbers.{one_small, once_fresh, once_taken, shared_ta
 
 -- ---- the two cases
 
-nothing_some : {A B : Type 0} (o : Option A) (a : A) → o ≡ none → o ≡ some a → B
+nothing_some : {A B : Type 0} (o : Option A) (a : A) → o ≡ None → o ≡ Some a → B
 nothing_some o a p q = let z : ◌≡◌ {A = ℕ} 0 1 = cc in absurd (omega arith)
 
-some_same : {A : Type 0} (P : A → Type 0) (a b : A) → some a ≡ some b → P a → P b
+some_same : {A : Type 0} (P : A → Type 0) (a b : A) → Some a ≡ Some b → P a → P b
 some_same P a b e p = let q : a ≡ b = cc in subst P q p
 
-not_held : {A B : Type 0} (f : MapTo A) (n : ℕ) (a : A) → f ≡ nowhere → f n ≡ some a → B
+not_held : {A B : Type 0} (f : MapTo A) (n : ℕ) (a : A) → f ≡ nowhere → f n ≡ Some a → B
 not_held f n a e = nothing_some (f n) a (ap (λ g. g n) e)
 
 clash : {B : Type 0} (b : Bool) → b ≡ true → b ≡ false → B
@@ -35,12 +35,12 @@ clash b p q = absurd (subst T (sym p ∙ q) tt)
 
 module _ {S : Settings} {c : Connection} (i : Reached S c) where
   -- without the peer's Open, or with it
-  pub either_way : {P : Type 0} → (Unopened S c → P) → ((m : ℕ) → c.agreed_max ≡ some m → Agreed S m c → P) → P
+  pub either_way : {P : Type 0} → (Unopened S c → P) → ((m : ℕ) → c.agreed_max ≡ Some m → Agreed S m c → P) → P
   either_way {P} f g = go c.agreed_max refl
     where
       go : (o : Option ℕ) → c.agreed_max ≡ o → P
-      go none e = f (i.unopened e)
-      go (some m) e = g m e (i.agreed m e)
+      go None e = f (i.unopened e)
+      go (Some m) e = g m e (i.agreed m e)
 
   -- before the peer's Open
   pub before_open_is : is_one_of before_open c.state ≡ true → c ≡ apply S (go c.state) fresh
@@ -50,11 +50,11 @@ module _ {S : Settings} {c : Connection} (i : Reached S c) where
 
 -- of a map with another value at k, what held of the map and holds of the value
 with_holds :
-    {A : Type 0} {P : ℕ → A → Type 0} (f : MapTo A) (k : ℕ) (v : Option A) → ((a : A) → v ≡ some a → P k a) → ((n : ℕ) (a : A) → f n ≡ some a → P n a)
-    → (n : ℕ) (a : A) → with f k v n ≡ some a → P n a
+    {A : Type 0} {P : ℕ → A → Type 0} (f : MapTo A) (k : ℕ) (v : Option A) → ((a : A) → v ≡ Some a → P k a) → ((n : ℕ) (a : A) → f n ≡ Some a → P n a)
+    → (n : ℕ) (a : A) → with f k v n ≡ Some a → P n a
 with_holds {P} f k v p i n a e = at (eqb k n) refl e
   where
-    at : (b : Bool) → eqb k n ≡ b → cond b v (f n) ≡ some a → P n a
+    at : (b : Bool) → eqb k n ≡ b → cond b v (f n) ≡ Some a → P n a
     at true q u = subst (λ m. P m a) (eqb→eq k n (subst T (sym q) tt)) (p a u)
     at false q u = i n a u
 
@@ -62,39 +62,39 @@ elsewhere : {A : Type 0} (f : MapTo A) (k : ℕ) (v : Option A) (n : ℕ) → eq
 elsewhere f k v n e = ap (λ b. cond b v (f n)) e
 
 -- a tie that is left when those through a channel are dropped was there, and was made through another
-left : (ch : ℕ) (o : Option Tie) (t : Tie) → cond (through ch o) none o ≡ some t → (o ≡ some t) × (eqb ch t.outgoing ≡ false)
-left ch none t e = nothing_some none t refl e
-left ch (some u) t e = go (eqb u.outgoing ch) refl e
+left : (ch : ℕ) (o : Option Tie) (t : Tie) → cond (through ch o) None o ≡ Some t → (o ≡ Some t) × (eqb ch t.outgoing ≡ false)
+left ch None t e = nothing_some None t refl e
+left ch (Some u) t e = go (eqb u.outgoing ch) refl e
   where
-    go : (b : Bool) → eqb u.outgoing ch ≡ b → cond b none (some u) ≡ some t → (some u ≡ some t) × (eqb ch t.outgoing ≡ false)
-    go true q p = nothing_some none t refl p
+    go : (b : Bool) → eqb u.outgoing ch ≡ b → cond b None (Some u) ≡ Some t → (Some u ≡ Some t) × (eqb ch t.outgoing ≡ false)
+    go true q p = nothing_some None t refl p
     go false q p =
         (p, some_same (λ v. eqb ch v.outgoing ≡ false) u t p (ne_eqb ch u.outgoing (λ s. clash (eqb u.outgoing ch) (eq-eqb u.outgoing ch (sym s)) q)))
 
 -- a number that is handed out is not taken
-next_free_lem : (m : ℕ) (l : Option (List ℕ)) (tk : Map) (ch : ℕ) (rest : List ℕ) → l ≡ some (ch ∷ rest) → Shared (some m) l tk → (h : ℕ) → tk ch ≡ some h → ⊥
+next_free_lem : (m : ℕ) (l : Option (List ℕ)) (tk : Map) (ch : ℕ) (rest : List ℕ) → l ≡ Some (ch ∷ rest) → Shared (Some m) l tk → (h : ℕ) → tk ch ≡ Some h → ⊥
 next_free_lem m l tk ch rest e i h q =
-    let j : EachOnce m (ch ∷ rest) tk = subst (λ o. Shared (some m) o tk) e i in
+    let j : EachOnce m (ch ∷ rest) tk = subst (λ o. Shared (Some m) o tk) e i in
     omega (arith, j ch, ap one (eq-eqb ch ch refl), one_small (leb ch m), ap is_taken q)
 
 -- ties are through taken channels when one more is taken
 taken_through :
-    (m : ℕ) (l : Option (List ℕ)) (tk : Map) (ti : Ties) (ch : ℕ) (rest : List ℕ) (h : ℕ) → l ≡ some (ch ∷ rest) → Shared (some m) l tk → TiedThrough tk ti
-    → TiedThrough (with tk ch (some h)) ti
+    (m : ℕ) (l : Option (List ℕ)) (tk : Map) (ti : Ties) (ch : ℕ) (rest : List ℕ) (h : ℕ) → l ≡ Some (ch ∷ rest) → Shared (Some m) l tk → TiedThrough tk ti
+    → TiedThrough (with tk ch (Some h)) ti
 taken_through m l tk ti ch rest h e i j n t q = go (eqb ch t.outgoing) refl
   where
-    go : (b : Bool) → eqb ch t.outgoing ≡ b → with tk ch (some h) t.outgoing ≡ some t.handle
+    go : (b : Bool) → eqb ch t.outgoing ≡ b → with tk ch (Some h) t.outgoing ≡ Some t.handle
     go true p = absurd (next_free_lem m l tk ch rest e i t.handle (ap tk (eqb→eq ch t.outgoing (subst T (sym p) tt)) ∙ j n t q))
-    go false p = elsewhere tk ch (some h) t.outgoing p ∙ j n t q
+    go false p = elsewhere tk ch (Some h) t.outgoing p ∙ j n t q
 
 -- and when one is freed and those through it are dropped
-freed_through : (tk : Map) (ti : Ties) (ch : ℕ) → TiedThrough tk ti → TiedThrough (with tk ch none) (dropped ch ti)
-freed_through tk ti ch j n t q = let p = left ch (ti n) t q in elsewhere tk ch none t.outgoing p.1 ∙ j n t p.0
+freed_through : (tk : Map) (ti : Ties) (ch : ℕ) → TiedThrough tk ti → TiedThrough (with tk ch None) (dropped ch ti)
+freed_through tk ti ch j n t q = let p = left ch (ti n) t q in elsewhere tk ch None t.outgoing p.1 ∙ j n t p.0
 
 -- a new tie is through a taken channel
-held_by : (c : Connection) (n : ℕ) (o : Option Tie) → Holder c n o → (t : Tie) → o ≡ some t → c.taken t.outgoing ≡ some t.handle
-held_by c n none k t e = nothing_some none t refl e
-held_by c n (some u) k t e = some_same (λ v. c.taken v.outgoing ≡ some v.handle) u t e k
+held_by : (c : Connection) (n : ℕ) (o : Option Tie) → Holder c n o → (t : Tie) → o ≡ Some t → c.taken t.outgoing ≡ Some t.handle
+held_by c n None k t e = nothing_some None t refl e
+held_by c n (Some u) k t e = some_same (λ v. c.taken v.outgoing ≡ Some v.handle) u t e k
 
 past_received : {B : Type 0} (x : State) → 2 ≤ stage x → is OpenReceived x ≡ true → B
 past_received x u e = let q : OpenReceived ≡ x = is_state OpenReceived x (subst T (sym e) tt) in let z : ⊥ = omega (arith, ap stage q) in absurd z
@@ -103,7 +103,7 @@ past_received x u e = let q : OpenReceived ≡ x = is_state OpenReceived x (subs
 
 -- with other numbers free and taken, and other ties
 other_channels :
-    (S : Settings) (m : ℕ) (c : Connection) → Agreed S m c → (l : Option (List ℕ)) (tk : Map) (ti : Ties) → Shared (some m) l tk → TiedWithin S.channel_max ti → TiedThrough tk ti
+    (S : Settings) (m : ℕ) (c : Connection) → Agreed S m c → (l : Option (List ℕ)) (tk : Map) (ti : Ties) → Shared (Some m) l tk → TiedWithin S.channel_max ti → TiedThrough tk ti
     → (is OpenReceived c.state ≡ true → ti ≡ nowhere) → Agreed S m (connection c.state c.reading_limit c.writing_limit c.agreed_max l tk ti)
 other_channels S m c a l tk ti s w t u = record {
   stands = a.stands;
@@ -123,7 +123,7 @@ module _ (H : ℕ → Type 0) (S : Settings) where
     unopened = λ q. nothing_some _ _ (ap (λ d. d.hand_out) (i.unopened q).at_first) l.next;
     agreed = λ m q.
         let a = i.agreed m q in
-        other_channels S m c a _ _ _ (shared_take (some m) c.hand_out c.taken ch rest h l.next a.shared) a.tied
+        other_channels S m c a _ _ _ (shared_take (Some m) c.hand_out c.taken ch rest h l.next a.shared) a.tied
         (taken_through m c.hand_out c.taken c.ties ch rest h l.next a.shared a.through) a.untied;
   }
 
@@ -134,13 +134,13 @@ module _ (H : ℕ → Type 0) (S : Settings) where
         let a = i.agreed m q in
         other_channels S m c a _ _ _ a.shared
         (with_holds {P = λ k t. k ≤ S.channel_max} c.ties n o (λ t e. l.most) a.tied)
-        (with_holds {P = λ k t. c.taken t.outgoing ≡ some t.handle} c.ties n o (held_by c n o l.holder) a.through)
+        (with_holds {P = λ k t. c.taken t.outgoing ≡ Some t.handle} c.ties n o (held_by c n o l.holder) a.through)
         (past_received c.state l.open_yet);
   }
     where
       holderless : {B : Type 0} (v : Option Tie) → c ≡ apply S (go c.state) fresh → Holder c n v → B
-      holderless none f k = not_held c.ties n k.0 (ap (λ d. d.ties) f) k.1
-      holderless (some t) f k = not_held c.taken t.outgoing t.handle (ap (λ d. d.taken) f) k
+      holderless None f k = not_held c.ties n k.0 (ap (λ d. d.ties) f) k.1
+      holderless (Some t) f k = not_held c.taken t.outgoing t.handle (ap (λ d. d.taken) f) k
 
   pub keeps : (e : Effect) (c : Connection) → Legit H S c e → Reached S c → Reached S (apply S e c)
   keeps stay c l i = i
@@ -164,7 +164,7 @@ module _ (H : ℕ → Type 0) (S : Settings) where
       let f = before_open_is i l.first in
       let no_tie : c.ties ≡ nowhere = ap (λ d. d.ties) f in
       record {
-        unopened = λ q. nothing_some (some m) m q refl;
+        unopened = λ q. nothing_some (Some m) m q refl;
         agreed = λ k q. some_same (λ j. Agreed S j (apply S (agree x m w) c)) m k q (record {
           stands = l.opened;
           most = l.most;
@@ -182,13 +182,13 @@ module _ (H : ℕ → Type 0) (S : Settings) where
     unopened = λ q. not_held c.taken ch l.0 (ap (λ d. d.taken) (i.unopened q).at_first) l.1;
     agreed = λ m q.
         let a = i.agreed m q in
-        other_channels S m c a _ _ _ (shared_give (some m) c.hand_out c.taken ch l.0 l.1 a.shared) (λ n t e. a.tied n t (left ch (c.ties n) t e).0)
+        other_channels S m c a _ _ _ (shared_give (Some m) c.hand_out c.taken ch l.0 l.1 a.shared) (λ n t e. a.tied n t (left ch (c.ties n) t e).0)
         (freed_through c.taken c.ties ch a.through) (λ e. ap (dropped ch) (a.untied e));
   }
   keeps (tie n o) c l i = keeps_tie n o c l i
   keeps (take_and_tie ch rest h n) c l i =
-      let held : with c.taken ch (some h) ch ≡ some h = rw (eq-eqb ch ch refl) in
-      keeps_tie n (some (tie_of ch h)) (apply S (take ch rest h) c) (record { open_yet = l.1; most = l.2; holder = held }) (keeps_take ch rest h c l.0 i)
+      let held : with c.taken ch (Some h) ch ≡ Some h = rw (eq-eqb ch ch refl) in
+      keeps_tie n (Some (tie_of ch h)) (apply S (take ch rest h) c) (record { open_yet = l.1; most = l.2; holder = held }) (keeps_take ch rest h c l.0 i)
 
   after_keeps : (c : Connection) {v : Verdict Outcome} → Holds (Lawful H S c) v → Reached S c → Reached S (after S v c)
   after_keeps c refused i = i
@@ -197,7 +197,7 @@ module _ (H : ℕ → Type 0) (S : Settings) where
 -- ---- every connection that calls can lead to
 
 pub reached_fresh : (S : Settings) → Reached S fresh
-reached_fresh S = record { unopened = λ q. record { stands = refl; at_first = refl }; agreed = λ m q. nothing_some none m refl q }
+reached_fresh S = record { unopened = λ q. record { stands = refl; at_first = refl }; agreed = λ m q. nothing_some None m refl q }
 
 module _ (role : Role) (S : Settings) where
   pub reached_next : (c : Connection) (call : Call) → Reached S c → Reached S (next role S c call)
@@ -262,32 +262,32 @@ module _ {S : Settings} {c : Connection} (i : Reached S c) where
 
 -- ---- channels that are taken
 
-shared_once : (a : Option ℕ) (o : Option (List ℕ)) (tk : Map) → Shared a o tk → (m : ℕ) (l : List ℕ) → a ≡ some m → o ≡ some l → EachOnce m l tk
-shared_once a o tk i m l e q = subst (λ b. Shared b (some l) tk) e (subst (λ b. Shared a b tk) q i)
+shared_once : (a : Option ℕ) (o : Option (List ℕ)) (tk : Map) → Shared a o tk → (m : ℕ) (l : List ℕ) → a ≡ Some m → o ≡ Some l → EachOnce m l tk
+shared_once a o tk i m l e q = subst (λ b. Shared b (Some l) tk) e (subst (λ b. Shared a b tk) q i)
 
 module _ {S : Settings} {c : Connection} (i : Reached S c) where
   -- taken numbers and the hand-out list together are 0 to the agreed channel-max, each once
-  pub each_once : (m : ℕ) (l : List ℕ) → c.agreed_max ≡ some m → c.hand_out ≡ some l → EachOnce m l c.taken
+  pub each_once : (m : ℕ) (l : List ℕ) → c.agreed_max ≡ Some m → c.hand_out ≡ Some l → EachOnce m l c.taken
   each_once = shared_once c.agreed_max c.hand_out c.taken (shares i)
 
   -- a taken channel is at most the agreed channel-max, which is at most the local one
-  pub taken_within : (n h : ℕ) → c.taken n ≡ some h → (m : ℕ) × (c.agreed_max ≡ some m) × (n ≤ m) × (m ≤ S.channel_max)
+  pub taken_within : (n h : ℕ) → c.taken n ≡ Some h → (m : ℕ) × (c.agreed_max ≡ Some m) × (n ≤ m) × (m ≤ S.channel_max)
   taken_within n h e = either_way i (λ u. not_held c.taken n h (ap (λ d. d.taken) u.at_first) e) (λ m q a. (m, q, low m c.hand_out a.shared, a.most))
     where
-      low : (m : ℕ) (l : Option (List ℕ)) → Shared (some m) l c.taken → n ≤ m
-      low m none s = absurd s
-      low m (some l) s = once_taken m l c.taken n h s e
+      low : (m : ℕ) (l : Option (List ℕ)) → Shared (Some m) l c.taken → n ≤ m
+      low m None s = absurd s
+      low m (Some l) s = once_taken m l c.taken n h s e
 
   -- nothing is taken while there is no hand-out list
-  pub none_taken_yet : c.hand_out ≡ none → c.taken ≡ nowhere
-  none_taken_yet e = either_way i (λ u. ap (λ d. d.taken) u.at_first) (λ m q a. absurd (subst (λ o. Shared (some m) o c.taken) e a.shared))
+  pub none_taken_yet : c.hand_out ≡ None → c.taken ≡ nowhere
+  none_taken_yet e = either_way i (λ u. ap (λ d. d.taken) u.at_first) (λ m q a. absurd (subst (λ o. Shared (Some m) o c.taken) e a.shared))
 
 -- ---- handles
 
 -- what holds of every handle that is lent holds of every handle that is held
 pub record Lent (H : ℕ → Type 0) (taken : Map) (ties : Ties) : Type 0 where
-  pub taken_lent : (n h : ℕ) → taken n ≡ some h → H h
-  pub tied_lent : (n : ℕ) (t : Tie) → ties n ≡ some t → H t.handle
+  pub taken_lent : (n h : ℕ) → taken n ≡ Some h → H h
+  pub tied_lent : (n : ℕ) (t : Tie) → ties n ≡ Some t → H t.handle
 
 abbrev pub AllLend : (ℕ → Type 0) → List Call → Type 0
 AllLend H [] = Unit {0}
@@ -299,11 +299,11 @@ module _ (H : ℕ → Type 0) (S : Settings) where
   lent_keeps (go x) c l i = i
   lent_keeps (agree x m w) c l i = i
   lent_keeps (take ch rest h) c l i = record {
-    taken_lent = with_holds {P = λ n k. H k} c.taken ch (some h) (λ k e. some_same H h k e l.lent) i.taken_lent;
+    taken_lent = with_holds {P = λ n k. H k} c.taken ch (Some h) (λ k e. some_same H h k e l.lent) i.taken_lent;
     tied_lent = i.tied_lent;
   }
   lent_keeps (give ch) c l i = record {
-    taken_lent = with_holds {P = λ n k. H k} c.taken ch none (λ k e. nothing_some none k refl e) i.taken_lent;
+    taken_lent = with_holds {P = λ n k. H k} c.taken ch None (λ k e. nothing_some None k refl e) i.taken_lent;
     tied_lent = λ n t e. i.tied_lent n t (left ch (c.ties n) t e).0;
   }
   lent_keeps (tie n o) c l i = record {
@@ -311,8 +311,8 @@ module _ (H : ℕ → Type 0) (S : Settings) where
     tied_lent = with_holds {P = λ k t. H t.handle} c.ties n o (λ t e. i.taken_lent t.outgoing t.handle (held_by c n o l.holder t e)) i.tied_lent;
   }
   lent_keeps (take_and_tie ch rest h n) c l i = record {
-    taken_lent = with_holds {P = λ n k. H k} c.taken ch (some h) (λ k e. some_same H h k e l.0.lent) i.taken_lent;
-    tied_lent = with_holds {P = λ k t. H t.handle} c.ties n (some (tie_of ch h)) (λ t e. some_same (λ u. H u.handle) (tie_of ch h) t e l.0.lent) i.tied_lent;
+    taken_lent = with_holds {P = λ n k. H k} c.taken ch (Some h) (λ k e. some_same H h k e l.0.lent) i.taken_lent;
+    tied_lent = with_holds {P = λ k t. H t.handle} c.ties n (Some (tie_of ch h)) (λ t e. some_same (λ u. H u.handle) (tie_of ch h) t e l.0.lent) i.tied_lent;
   }
 
   lent_after : (c : Connection) {v : Verdict Outcome} → Holds (Lawful H S c) v → Lent H c.taken c.ties → Lent H (after S v c).taken (after S v c).ties
@@ -324,4 +324,4 @@ module _ (H : ℕ → Type 0) (S : Settings) where
   lent_run role (call ∷ calls) c k i = lent_run role calls (next role S c call) k.1 (lent_after c (lawful H role S c call k.0) i)
 
   pub handles_lent : (role : Role) (calls : List Call) → AllLend H calls → Lent H (run role S fresh calls).taken (run role S fresh calls).ties
-  handles_lent role calls k = lent_run role calls fresh k (record { taken_lent = λ n h e. nothing_some none h refl e; tied_lent = λ n t e. nothing_some none t refl e })
+  handles_lent role calls k = lent_run role calls fresh k (record { taken_lent = λ n h e. nothing_some None h refl e; tied_lent = λ n t e. nothing_some None t refl e })

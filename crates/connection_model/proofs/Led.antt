@@ -3,7 +3,7 @@
 use mathlib.Core.Path.{◌≡◌, refl, ◌∙◌, ap, subst}
 use mathlib.Core.Bool.{Bool, true, false, cond}
 use mathlib.Core.List.{List, [], ◌∷◌, ◌++◌}
-use mathlib.Core.Option.{Option, none, some}
+use Rattle.std.specs.Prelude.{Option, None, Some}
 use Prim.Native.Nat.{ℕ, ◌≤◌}
 use native.Mathlib.Omega.{arith}
 use lib.Dec.{T, leb, eqb}
@@ -51,8 +51,8 @@ uint_short n = by (eqb n 0) (leb n 255)
 
 idle_short : (o : Option ℕ) → length (idle_field o) ≤ 5
 unfolding idle_field
-idle_short none = omega arith
-idle_short (some n) = uint_short n
+idle_short None = omega arith
+idle_short (Some n) = uint_short n
 
 open_short : (S : Settings) → length S.container_id ≤ 255 → length (frame_bytes 0 (open_body S)) ≤ 512
 unfolding composite joined open_fields ushort bytes_of
@@ -81,17 +81,17 @@ unfolding limited
 limited_yes limit bs h k = require_on 27 _ _ (both _ _ (le-leb (length bs) limit h) (le-leb (length bs) 16384 k))
 
 failure : ErrorText
-failure = record { condition = []; description = none }
+failure = record { condition = []; description = None }
 
 failure_ok : error_ok failure ≡ true
 unfolding failure error_ok ascii
 failure_ok = refl
 
-close_length : length (frame_bytes 0 (close_body none)) ≡ 12
+close_length : length (frame_bytes 0 (close_body None)) ≡ 12
 unfolding composite trimmed joined composite_header list_header error_field starts_with frame_bytes frame_header bytes_of
 close_length = refl
 
-error_length : length (frame_bytes 0 (close_body (some failure))) ≡ 22
+error_length : length (frame_bytes 0 (close_body (Some failure))) ≡ 22
 unfolding failure composite trimmed joined composite_header list_header error_fields description_field error_field text text_header starts_with frame_bytes frame_header bytes_of
 error_length = refl
 
@@ -150,10 +150,10 @@ module _ (role : Role) (S : Settings) where
         ∙ then_accept (limited c.writing_limit (frame_bytes 0 (close_body o))) _ _ (limited_yes c.writing_limit (frame_bytes 0 (close_body o)) (omega arith) (omega arith))))
 
     pub send_plain : 512 ≤ c.writing_limit → along send_close x ≡ accept y → Led role S (at x c) (at y c)
-    send_plain = send_close_lem none refl (omega (arith, close_length))
+    send_plain = send_close_lem None refl (omega (arith, close_length))
 
     pub send_error : 512 ≤ c.writing_limit → along send_close_with_error x ≡ accept y → Led role S (at x c) (at y c)
-    send_error = send_close_lem (some failure) failure_ok (omega (arith, error_length))
+    send_error = send_close_lem (Some failure) failure_ok (omega (arith, error_length))
 
     pub read_close_lem : 512 ≤ c.reading_limit → along read_close x ≡ accept y → Led role S (at x c) (at y c)
     read_close_lem low e =

@@ -3,7 +3,7 @@
 use mathlib.Core.Path.{◌≡◌, refl, ap, ◌∙◌}
 use mathlib.Core.Bool.{Bool, true, false, cond}
 use mathlib.Core.List.{List, [], ◌∷◌}
-use mathlib.Core.Option.{Option, some}
+use Rattle.std.specs.Prelude.{Option, Some}
 use Prim.Native.Nat.{ℕ, ◌+◌, ◌-◌, ◌<◌, ◌≤◌}
 use native.Mathlib.Omega.{arith}
 use lib.Dec.{leb}
@@ -110,17 +110,17 @@ closed = read 24 [] 4 4
 abbrev pub detached : Performative
 detached = read 22 ((0x43 ∷ []) ∷ []) 6 7
 
-contents : (content an_open ≡ accept (some opened)) × (content a_close ≡ accept (some closed)) × (content a_detach ≡ accept (some detached))
+contents : (content an_open ≡ accept (Some opened)) × (content a_close ≡ accept (Some closed)) × (content a_detach ≡ accept (Some detached))
 unfolding content performative performative_by fields_by described descriptor require and_then starts_with value_end run level after_code kind_of kind_in codes times followed_by plus body bytes number_of big_endian big_endian_from list_at sized opening number_in paired_in fields_of fields_in rows_for split variable_end fit fits has_type
 contents = (refl, refl, refl)
 
-pub open_content : content an_open ≡ accept (some opened)
+pub open_content : content an_open ≡ accept (Some opened)
 open_content = contents.0
 
-pub close_content : content a_close ≡ accept (some closed)
+pub close_content : content a_close ≡ accept (Some closed)
 close_content = contents.1
 
-pub detach_content : content a_detach ≡ accept (some detached)
+pub detach_content : content a_detach ≡ accept (Some detached)
 detach_content = contents.2
 
 -- ---- a Transfer of handle 0 with a payload, to be sent

@@ -3,7 +3,7 @@
 use mathlib.Core.Path.{◌≡◌, refl, ◌∙◌, ap}
 use mathlib.Core.Bool.{Bool, true, false, cond, not, ◌&&◌}
 use mathlib.Core.List.{List, [], ◌∷◌}
-use mathlib.Core.Option.{Option, none, some}
+use Rattle.std.specs.Prelude.{Option, None, Some}
 use Prim.Native.Nat.{ℕ, ◌-◌, ◌≤◌, ◌<◌}
 use native.Mathlib.Omega.{arith}
 use lib.Dec.{leb, eqb}
@@ -87,13 +87,13 @@ too_long_told true bytes e = refl
 too_long_told false bytes e = refl
 
 pass_told : (f : Frame) (code : ℕ) (o : Option Tie) → refuses 20 (pass_on f code o) ≡ false
-pass_told f p none = refl
-pass_told f p (some h) = refl
+pass_told f p None = refl
+pass_told f p (Some h) = refl
 
 given_told : (h : ℕ) (l : Option (List ℕ)) → refuses 22 (given h l) ≡ false
-given_told h none = refl
-given_told h (some []) = refl
-given_told h (some (ch ∷ rest)) = refl
+given_told h None = refl
+given_told h (Some []) = refl
+given_told h (Some (ch ∷ rest)) = refl
 
 -- ---- eight calls that tell the state
 
@@ -118,7 +118,7 @@ module _ (role : Role) (S : Settings) (c : Connection) (low : 512 ≤ c.reading_
   unfolding limited
   send_open_told = ap (refuses 20) (require_on 9 (room_for 0 space) _ space_room) ∙ moves_told send_open c.state _ (λ y. writing_told _ _ (go y))
 
-  pub send_close_told : refuses 20 (decide role S c (send_close_to none space)) ≡ bars send_close c.state
+  pub send_close_told : refuses 20 (decide role S c (send_close_to None space)) ≡ bars send_close c.state
   unfolding limited
   send_close_told =
       ap (refuses 20) (require_on 9 (room_for 0 space) _ space_room ∙ require_on 8 true _ refl)
@@ -216,24 +216,24 @@ detach_read role S l c n low held few =
     then_accept _ (frame_read role S (at Opened l c) 0) _ (read_whole n a_detach (omega arith) (omega arith) c.reading_limit S.channel_max _ detach_content (omega arith) held)
 
 pub passed_told : (f : Frame) (code : ℕ) (o u : Option Tie) → answered (pass_on f code o) ≡ answered (pass_on f code u) → handle_of o ≡ handle_of u
-passed_told f p none none e = refl
-passed_told f p none (some t) e = cc
-passed_told f p (some t) none e = cc
-passed_told f p (some t) (some u) e = let q : t.handle ≡ u.handle = cc in ap some q
+passed_told f p None None e = refl
+passed_told f p None (Some t) e = cc
+passed_told f p (Some t) None e = cc
+passed_told f p (Some t) (Some u) e = let q : t.handle ≡ u.handle = cc in ap Some q
 
 -- ---- a taken channel, by deallocating it
 
 pub released_told : (ch : ℕ) (o u : Option ℕ) → answered (released ch o) ≡ answered (released ch u) → o ≡ u
-released_told ch none none e = refl
-released_told ch none (some h) e = cc
-released_told ch (some h) none e = cc
-released_told ch (some h) (some k) e = cc
+released_told ch None None e = refl
+released_told ch None (Some h) e = cc
+released_told ch (Some h) None e = cc
+released_told ch (Some h) (Some k) e = cc
 
 -- ---- the hand-out list, by allocating: absent is 21, empty 23
 
 pub head_told : (a b : ℕ) → ◌≡◌ {A = Verdict Answer} (accept (channel a)) (accept (channel b)) → a ≡ b
 head_told a b e = cc
 
-pub absent_told : (l : List ℕ) → answered (given 0 none) ≡ answered (given 0 (some l)) → none ≡ some l
+pub absent_told : (l : List ℕ) → answered (given 0 None) ≡ answered (given 0 (Some l)) → None ≡ Some l
 absent_told [] e = let z : ◌≡◌ {A = ℕ} 21 23 = cc in absurd (omega arith)
 absent_told (a ∷ l) e = cc

@@ -3,7 +3,7 @@
 use mathlib.Core.Path.{◌≡◌, refl, subst}
 use mathlib.Core.Bool.{Bool, true, false, cond, not, ◌&&◌, ◌||◌}
 use mathlib.Core.List.{List, [], ◌∷◌}
-use mathlib.Core.Option.{Option, none, some}
+use Rattle.std.specs.Prelude.{Option, None, Some}
 use Prim.Native.Nat.{ℕ, ◌<◌}
 use native.Mathlib.Omega.{arith}
 use lib.Dec.{T, ltb, eqb, lt→ltb}
@@ -101,22 +101,22 @@ module _ (role : Role) (S : Settings) (c : Connection) where
   -- where sessions' frames are read
   module _ (f : Frame) (t : T (is_one_of reading c.state)) where
     late_tie : (r : ℕ) (o : Option ℕ) → Refuses Late (tie_to f r o)
-    late_tie r none = turns t
-    late_tie r (some h) = takes
+    late_tie r None = turns t
+    late_tie r (Some h) = takes
 
     late_untie : (o : Option Tie) → Refuses Late (untie f o)
-    late_untie none = turns t
-    late_untie (some u) = takes
+    late_untie None = turns t
+    late_untie (Some u) = takes
 
     late_pass : (code : ℕ) (o : Option Tie) → Refuses Late (pass_on f code o)
-    late_pass code none = turns t
-    late_pass code (some u) = takes
+    late_pass code None = turns t
+    late_pass code (Some u) = takes
 
     late_new : (ρ : Role) (h : ℕ) (l : Option (List ℕ)) → Refuses Late (new_session ρ f h l)
     late_new dialler h l = turns t
-    late_new listener h none = turns t
-    late_new listener h (some []) = turns t
-    late_new listener h (some (ch ∷ rest)) = takes
+    late_new listener h None = turns t
+    late_new listener h (Some []) = turns t
+    late_new listener h (Some (ch ∷ rest)) = takes
 
     late_begun : (h : ℕ) (rs : List ℕ) → Refuses Late (begun role c f h rs)
     late_begun h [] = late_new role h c.hand_out
@@ -138,8 +138,8 @@ module _ (role : Role) (S : Settings) (c : Connection) where
       (λ u. late_session f h p.code (remote_channel p) n)))
 
   pub late_frame : (h : ℕ) (r : Frame × Option Performative) → Refuses Late (frame_read role S c h r)
-  late_frame h (f, none) = takes
-  late_frame h (f, some p) = late_performative f h p
+  late_frame h (f, None) = takes
+  late_frame h (f, Some p) = late_performative f h p
 
   low_or : (k : ℕ) (b : Bool) → k < 20 → T (ltb k 20 || b)
   low_or k b l = by (ltb k 20) (lt→ltb k 20 l)

@@ -2,7 +2,7 @@
 -- Assumes nothing.
 use mathlib.Core.Path.{◌≡◌, refl, sym, ◌∙◌, ap, ap₂, subst}
 use mathlib.Core.List.{List, [], ◌∷◌}
-use mathlib.Core.Option.{Option, none, some}
+use Rattle.std.specs.Prelude.{Option, None, Some}
 use Prim.Native.Nat.{ℕ, ◌-◌, ◌≤◌}
 use lib.Dec.{eqb}
 use lib.ListN.{take, drop}
@@ -39,22 +39,22 @@ module _ (role : Role) (S : Settings) (c : Connection) (f : Frame) (h : ℕ) whe
   its_own = (refl, refl, refl)
 
   on_tie : (r : ℕ) (o : Option ℕ) → Right (tie_to f r o)
-  on_tie r none = refused
-  on_tie r (some k) = holds its_own
+  on_tie r None = refused
+  on_tie r (Some k) = holds its_own
 
   on_untie : (o : Option Tie) → Right (untie f o)
-  on_untie none = refused
-  on_untie (some k) = holds its_own
+  on_untie None = refused
+  on_untie (Some k) = holds its_own
 
   on_pass : (code : ℕ) (o : Option Tie) → Right (pass_on f code o)
-  on_pass code none = refused
-  on_pass code (some k) = holds its_own
+  on_pass code None = refused
+  on_pass code (Some k) = holds its_own
 
   on_new : (ρ : Role) (l : Option (List ℕ)) → Right (new_session ρ f h l)
   on_new dialler l = refused
-  on_new listener none = refused
-  on_new listener (some []) = refused
-  on_new listener (some (ch ∷ rest)) = holds its_own
+  on_new listener None = refused
+  on_new listener (Some []) = refused
+  on_new listener (Some (ch ∷ rest)) = holds its_own
 
   on_begun : (rs : List ℕ) → Right (begun role c f h rs)
   on_begun [] = on_new role c.hand_out
@@ -67,8 +67,8 @@ module _ (role : Role) (S : Settings) (c : Connection) (f : Frame) (h : ℕ) whe
       (on_cond _ (eqb code 23) _ _ (λ u. on_untie (c.ties f.channel)) (on_pass code (c.ties f.channel))))
 
   on_frame : (o : Option Performative) → Right (frame_read role S c h (f, o))
-  on_frame none = holds refl
-  on_frame (some p) =
+  on_frame None = holds refl
+  on_frame (Some p) =
       on_cond _ (eqb p.code 24) _ _ (λ t. on_any _ (along read_close c.state) _ (λ x. holds refl))
       (on_cond _ (is Discarding c.state) _ _ (λ t. holds refl)
       (on_cond _ (eqb p.code 16) _ _ (λ t. on_any _ (along read_open c.state) _ (λ x. holds refl))

@@ -4,7 +4,7 @@
 use mathlib.Core.Path.{◌≡◌, refl, subst}
 use mathlib.Core.Bool.{Bool, true, false, cond, not, ◌&&◌}
 use mathlib.Core.List.{List, [], ◌∷◌}
-use mathlib.Core.Option.{Option, none, some}
+use Rattle.std.specs.Prelude.{Option, None, Some}
 use Prim.Native.Nat.{ℕ, ◌≤◌}
 use native.Mathlib.Omega.{arith}
 use lib.Dec.{T, leb, eqb, leb→le}
@@ -204,8 +204,8 @@ lends_any (tick out) = tt
 
 -- a tie names a taken channel with its handle, and what is untied was tied
 abbrev pub Holder : Connection → ℕ → Option Tie → Type 0
-Holder c n none = (t : Tie) × (c.ties n ≡ some t)
-Holder c n (some t) = c.taken t.outgoing ≡ some t.handle
+Holder c n None = (t : Tie) × (c.ties n ≡ Some t)
+Holder c n (Some t) = c.taken t.outgoing ≡ Some t.handle
 
 pub record MayAgree (S : Settings) (from to : State) (m w : ℕ) : Type 0 where
   pub first : is_one_of before_open from ≡ true
@@ -221,7 +221,7 @@ pub record MayTie (S : Settings) (c : Connection) (n : ℕ) (o : Option Tie) : T
   pub holder : Holder c n o
 
 pub record MayTake (H : ℕ → Type 0) (c : Connection) (ch : ℕ) (rest : List ℕ) (h : ℕ) : Type 0 where
-  pub next : c.hand_out ≡ some (ch ∷ rest)
+  pub next : c.hand_out ≡ Some (ch ∷ rest)
   pub lent : H h
 
 abbrev pub Legit : (ℕ → Type 0) → Settings → Connection → Effect → Type 0
@@ -229,7 +229,7 @@ Legit H S c stay = Unit {0}
 Legit H S c (go x) = MayGo c.state x
 Legit H S c (agree x m w) = MayAgree S c.state x m w
 Legit H S c (take ch rest h) = MayTake H c ch rest h
-Legit H S c (give ch) = (h : ℕ) × (c.taken ch ≡ some h)
+Legit H S c (give ch) = (h : ℕ) × (c.taken ch ≡ Some h)
 Legit H S c (tie n o) = MayTie S c n o
 Legit H S c (take_and_tie ch rest h n) = MayTake H c ch rest h × (2 ≤ stage c.state) × (n ≤ S.channel_max)
 
@@ -251,22 +251,22 @@ module _ (H : ℕ → Type 0) (role : Role) (S : Settings) (c : Connection) wher
   -- a frame that was read
   module _ (f : Frame) (le : f.channel ≤ S.channel_max) where
     on_tie_to : 2 ≤ stage c.state → (r : ℕ) (o : Option ℕ) → c.taken r ≡ o → Fine (tie_to f r o)
-    on_tie_to u r none e = refused
-    on_tie_to u r (some h) e = let l : MayTie S c f.channel (some (tie_of r h)) = record { open_yet = u; most = le; holder = e } in holds l
+    on_tie_to u r None e = refused
+    on_tie_to u r (Some h) e = let l : MayTie S c f.channel (Some (tie_of r h)) = record { open_yet = u; most = le; holder = e } in holds l
 
     on_untie : 2 ≤ stage c.state → (o : Option Tie) → c.ties f.channel ≡ o → Fine (untie f o)
-    on_untie u none e = refused
-    on_untie u (some t) e = let l : MayTie S c f.channel none = record { open_yet = u; most = le; holder = (t, e) } in holds l
+    on_untie u None e = refused
+    on_untie u (Some t) e = let l : MayTie S c f.channel None = record { open_yet = u; most = le; holder = (t, e) } in holds l
 
     on_pass_on : (code : ℕ) (o : Option Tie) → Fine (pass_on f code o)
-    on_pass_on code none = refused
-    on_pass_on code (some t) = holds tt
+    on_pass_on code None = refused
+    on_pass_on code (Some t) = holds tt
 
     on_new_session : (ρ : Role) → 2 ≤ stage c.state → (h : ℕ) → H h → (l : Option (List ℕ)) → c.hand_out ≡ l → Fine (new_session ρ f h l)
     on_new_session dialler u h k l e = refused
-    on_new_session listener u h k none e = refused
-    on_new_session listener u h k (some []) e = refused
-    on_new_session listener u h k (some (ch ∷ rest)) e = let l : MayTake H c ch rest h = record { next = e; lent = k } in let m : Legit H S c (take_and_tie ch rest h f.channel) = (l, u, le) in holds m
+    on_new_session listener u h k None e = refused
+    on_new_session listener u h k (Some []) e = refused
+    on_new_session listener u h k (Some (ch ∷ rest)) e = let l : MayTake H c ch rest h = record { next = e; lent = k } in let m : Legit H S c (take_and_tie ch rest h f.channel) = (l, u, le) in holds m
 
     on_begun : 2 ≤ stage c.state → (h : ℕ) → H h → (rs : List ℕ) → Fine (begun role c f h rs)
     on_begun u h k [] = on_new_session role u h k c.hand_out refl
@@ -298,20 +298,20 @@ module _ (H : ℕ → Type 0) (role : Role) (S : Settings) (c : Connection) wher
         (on_session_read h k p.code (remote_channel p))))
 
   on_frame : (h : ℕ) → H h → (r : Frame × Option Performative) → r.0.channel ≤ S.channel_max → Fine (frame_read role S c h r)
-  on_frame h k (f, none) le = holds tt
-  on_frame h k (f, some p) le = on_performative f le h k p
+  on_frame h k (f, None) le = holds tt
+  on_frame h k (f, Some p) le = on_performative f le h k p
 
   on_closes : (e : Option ErrorText) → Holds (λ x. T (onward c.state x)) (closes e c.state)
-  on_closes none = on_along onward send_close tt c.state
-  on_closes (some e) = on_along onward send_close_with_error tt c.state
+  on_closes None = on_along onward send_close tt c.state
+  on_closes (Some e) = on_along onward send_close_with_error tt c.state
 
   -- a session's frame that is sent
   on_tied_by : (ρ : Role) (rs : List ℕ) → T (within S.channel_max rs) → 2 ≤ stage c.state → (n : ℕ) (o : Option ℕ) → c.taken n ≡ o → Holds (Legit H S c) (tied_by ρ rs n o)
   on_tied_by dialler rs t u n o e = holds tt
   on_tied_by listener [] t u n o e = holds tt
-  on_tied_by listener (r ∷ rs) t u n none e = refused
-  on_tied_by listener (r ∷ rs) t u n (some h) e =
-      let l : MayTie S c r (some (tie_of n h)) = record { open_yet = u; most = leb→le _ _ (and_left (leb r S.channel_max) (within S.channel_max rs) t); holder = e } in
+  on_tied_by listener (r ∷ rs) t u n None e = refused
+  on_tied_by listener (r ∷ rs) t u n (Some h) e =
+      let l : MayTie S c r (Some (tie_of n h)) = record { open_yet = u; most = leb→le _ _ (and_left (leb r S.channel_max) (within S.channel_max rs) t); holder = e } in
       holds l
 
   on_sent : (s : List ℕ) (r : Frame × Performative) → NamesWithin S.channel_max r.1 → Fine (session_sent role c s r)
@@ -322,13 +322,13 @@ module _ (H : ℕ → Type 0) (role : Role) (S : Settings) (c : Connection) wher
       on_any _ (limited c.writing_limit (session_bytes s r)) _ (λ bytes. holds l)))
 
   on_given : (h : ℕ) → H h → (l : Option (List ℕ)) → c.hand_out ≡ l → Fine (given h l)
-  on_given h k none e = refused
-  on_given h k (some []) e = refused
-  on_given h k (some (ch ∷ rest)) e = let l : MayTake H c ch rest h = record { next = e; lent = k } in holds l
+  on_given h k None e = refused
+  on_given h k (Some []) e = refused
+  on_given h k (Some (ch ∷ rest)) e = let l : MayTake H c ch rest h = record { next = e; lent = k } in holds l
 
   on_released : (ch : ℕ) (o : Option ℕ) → c.taken ch ≡ o → Fine (released ch o)
-  on_released ch none e = refused
-  on_released ch (some h) e = let l : Legit H S c (give ch) = (h, e) in holds l
+  on_released ch None e = refused
+  on_released ch (Some h) e = let l : Legit H S c (give ch) = (h, e) in holds l
 
   -- every call's effect is lawful
   pub lawful : (call : Call) → Lends H call → Holds (Lawful H S c) (decide role S c call)

@@ -3,7 +3,7 @@
 use mathlib.Core.Path.{◌≡◌, refl}
 use mathlib.Core.Bool.{false}
 use mathlib.Core.List.{List, [], ◌∷◌, ◌++◌}
-use mathlib.Core.Option.{none, some}
+use Rattle.std.specs.Prelude.{None, Some}
 use Prim.Native.Nat.{ℕ}
 use lib.ListN.{replicate}
 use Rattle.octets.specs.Verdict.{Verdict, refuse, accept, require, and_then}
@@ -31,7 +31,7 @@ amqp : List ℕ
 amqp = 0x41 ∷ 0x4D ∷ 0x51 ∷ 0x50 ∷ 0x00 ∷ 0x01 ∷ 0x00 ∷ 0x00 ∷ []
 
 settings : Settings
-settings = record { container_id = 0x70 ∷ 0x31 ∷ []; max_frame_size = 4096; channel_max = 7; idle_time_out = none }
+settings = record { container_id = 0x70 ∷ 0x31 ∷ []; max_frame_size = 4096; channel_max = 7; idle_time_out = None }
 
 -- container-id h, channel-max 3
 peer_open : List ℕ
@@ -93,7 +93,7 @@ late_begin = refl
 header_and_close :
     answers_of
     (seen_in dialler settings fresh
-    (send_header_to out ∷ receive_header_from malformed ∷ receive_header_from amqp ∷ send_open_to out ∷ tick out ∷ receive_frame peer_open 0 ∷ send_close_to none out ∷ tick out
+    (send_header_to out ∷ receive_header_from malformed ∷ receive_header_from amqp ∷ send_open_to out ∷ tick out ∷ receive_frame peer_open 0 ∷ send_close_to None out ∷ tick out
     ∷ allocate 1 ∷ receive_frame attach_on5 0 ∷ receive_frame close 0 ∷ tick out ∷ receive_frame close 0 ∷ []))
     ≡ accept (wrote 8) ∷ refuse 2 ∷ accept (header 8) ∷ accept (wrote 27) ∷ accept (wrote 8) ∷ accept (opened 22 0) ∷ accept (wrote 12) ∷ accept (wrote 0)
     ∷ refuse 22 ∷ refuse 20 ∷ accept (closed 12 false) ∷ accept stop ∷ refuse 20 ∷ []
@@ -134,8 +134,8 @@ given_anew = refl
 
 -- once the peer's Close was read no call tells of ties; those of a freed channel are dropped all the same
 unseen :
-    ((run dialler settings (run dialler settings fresh to_opened) (allocate 7 ∷ receive_frame begin_for0 0 ∷ receive_frame close 0 ∷ [])).ties 5 ≡ some (tie_of 0 7))
-    × ((run dialler settings (run dialler settings fresh to_opened) (allocate 7 ∷ receive_frame begin_for0 0 ∷ receive_frame close 0 ∷ deallocate 0 ∷ [])).ties 5 ≡ none)
+    ((run dialler settings (run dialler settings fresh to_opened) (allocate 7 ∷ receive_frame begin_for0 0 ∷ receive_frame close 0 ∷ [])).ties 5 ≡ Some (tie_of 0 7))
+    × ((run dialler settings (run dialler settings fresh to_opened) (allocate 7 ∷ receive_frame begin_for0 0 ∷ receive_frame close 0 ∷ deallocate 0 ∷ [])).ties 5 ≡ None)
 unfolding to_opened begin_for0 close settings amqp peer_open out require and_then big_endian_from big_endian bytes_of starts_with room_for is_protocol_id protocol_id starts_with_all header_of has_id is_amqp100 protocol received header_bytes plus followed_by times codes kind_in kind_of bytes_at number_in boolean_end variable_end paired_in opening items compound_end body after_code level run_of value_end fields_in fields_of number_of sized list_at described split error_shape is_error has_type fits fit rows_for performative number_or remote_channel start_of condition_at condition frame body_in content read_frame uint ushort text_header text list_header joined trimmed composite_header composite frame_header frame_bytes limited idle_field open_fields error_field descriptor performative_by fields_by
 unseen = (refl, refl)
 

@@ -1,15 +1,14 @@
 -- The account of a connection, exactly as document 01 reads it off ("The account"), with the outgoing channel of each tie (document 02, wish 7).
 -- Assumes nothing: these are definitions.
-use Rattle.std.specs.Prelude.{Bool, true, false, List, [], ◌∷◌, ℕ}
-use Rattle.std.proofs.Math.Option.{Option, none, some}
+use Rattle.std.specs.Prelude.{Bool, true, false, List, [], ◌∷◌, ℕ, Option, None, Some}
 use Rattle.connection_state.specs.States.{State, OpenReceived, Opened, CloseReceived, is, is_one_of}
 use Rattle.channels.specs.Numbers.{Map}
 use Rattle.channels.specs.Ties.{Ties}
 use Rattle.connection_model.specs.Connection.{Connection}
 
 abbrev pub when : {A : Type 0} → Bool → A → Option A
-when true a = some a
-when false a = none
+when true a = Some a
+when false a = None
 
 -- the writing limit and the hand-out list count in these; within the list, none is "absent"
 abbrev pub limits_show : State → Bool

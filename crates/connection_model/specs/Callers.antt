@@ -1,7 +1,6 @@
 -- Which calls a caller can pass: slices of bytes that memory can hold, handles of 32 bits, channel numbers of 16.
 -- Assumes nothing: these are definitions.
-use Rattle.std.specs.Prelude.{◌≡◌, Bool, true, ◌&&◌, List, [], ◌∷◌, ℕ, ltb, length}
-use Rattle.std.proofs.Math.Option.{Option, none, some}
+use Rattle.std.specs.Prelude.{◌≡◌, Bool, true, ◌&&◌, List, [], ◌∷◌, ℕ, ltb, length, Option, None, Some}
 use Rattle.frame_encoder.specs.Frames.{ErrorText}
 use Rattle.connection_model.specs.Connection.{Call, send_header_to, receive_header_from, send_open_to, receive_frame, send_close_to, send_session_frame, allocate, deallocate, tick}
 
@@ -20,12 +19,12 @@ abbrev pub is_channel : ℕ → Bool
 is_channel ch = ltb ch 65536
 
 abbrev pub may_slice : Option (List ℕ) → Bool
-may_slice none = true
-may_slice (some s) = is_slice s
+may_slice None = true
+may_slice (Some s) = is_slice s
 
 abbrev pub may_text : Option ErrorText → Bool
-may_text none = true
-may_text (some e) = is_slice e.condition && may_slice e.description
+may_text None = true
+may_text (Some e) = is_slice e.condition && may_slice e.description
 
 -- lent output, too, is a slice of bytes
 abbrev pub is_valid : Call → Bool

@@ -2,8 +2,7 @@
 -- document 02, wish 7: a tie goes with the channel through which it was made).
 -- Calls carry what a caller passes: bytes, numbers, and the lent output with the bytes that stand there. A rule is a verdict: a refusal, or an outcome.
 -- Assumes nothing: these are definitions.
-use Rattle.std.specs.Prelude.{Bool, true, false, cond, not, List, [], ◌∷◌, ℕ, suc, ◌-◌, min, max, length, eqb}
-use Rattle.std.proofs.Math.Option.{Option, none, some}
+use Rattle.std.specs.Prelude.{Bool, true, false, cond, not, List, [], ◌∷◌, ℕ, suc, ◌-◌, min, max, length, eqb, Option, None, Some}
 use Rattle.octets.specs.Verdict.{Verdict, refuse, accept, require, and_then}
 use Rattle.octets.specs.Output.{room_for, laid}
 use Rattle.protocol_header.specs.Header.{Protocol, amqp100, other, received, version100, header_bytes}
@@ -31,7 +30,7 @@ pub record Connection : Type 0 where
   pub ties : Ties
 
 abbrev pub fresh : Connection
-fresh = record { state = Start; reading_limit = 512; writing_limit = 512; agreed_max = none; hand_out = none; taken = nowhere; ties = nowhere }
+fresh = record { state = Start; reading_limit = 512; writing_limit = 512; agreed_max = None; hand_out = None; taken = nowhere; ties = nowhere }
 
 -- ---- calls and answers
 
@@ -96,12 +95,12 @@ connection x r w m l tk ti = record { state = x; reading_limit = r; writing_limi
 abbrev pub apply : Settings → Effect → Connection → Connection
 apply S stay c = c
 apply S (go x) c = connection x c.reading_limit c.writing_limit c.agreed_max c.hand_out c.taken c.ties
-apply S (agree x m w) c = connection x S.max_frame_size w (some m) (some (up_from 0 (suc m))) c.taken c.ties
-apply S (take ch rest h) c = connection c.state c.reading_limit c.writing_limit c.agreed_max (some rest) (with c.taken ch (some h)) c.ties
-apply S (give ch) c = connection c.state c.reading_limit c.writing_limit c.agreed_max (freed_first ch c.hand_out) (with c.taken ch none) (dropped ch c.ties)
+apply S (agree x m w) c = connection x S.max_frame_size w (Some m) (Some (up_from 0 (suc m))) c.taken c.ties
+apply S (take ch rest h) c = connection c.state c.reading_limit c.writing_limit c.agreed_max (Some rest) (with c.taken ch (Some h)) c.ties
+apply S (give ch) c = connection c.state c.reading_limit c.writing_limit c.agreed_max (freed_first ch c.hand_out) (with c.taken ch None) (dropped ch c.ties)
 apply S (tie n t) c = connection c.state c.reading_limit c.writing_limit c.agreed_max c.hand_out c.taken (with c.ties n t)
 apply S (take_and_tie ch rest h n) c =
-    connection c.state c.reading_limit c.writing_limit c.agreed_max (some rest) (with c.taken ch (some h)) (with c.ties n (some (tie_of ch h)))
+    connection c.state c.reading_limit c.writing_limit c.agreed_max (Some rest) (with c.taken ch (Some h)) (with c.ties n (Some (tie_of ch h)))
 
 -- ---- the rules
 
@@ -126,22 +125,22 @@ forwarded f code h = forward f.size code h f.from (f.size - f.from)
 
 -- a Begin's channel is tied through the outgoing channel r, if a handle holds it; an End's is untied, and what comes between passed on
 abbrev pub tie_to : Frame → ℕ → Option ℕ → Verdict Outcome
-tie_to f r none = refuse 24
-tie_to f r (some h) = says (forwarded f 17 h) (tie f.channel (some (tie_of r h)))
+tie_to f r None = refuse 24
+tie_to f r (Some h) = says (forwarded f 17 h) (tie f.channel (Some (tie_of r h)))
 
 abbrev pub untie : Frame → Option Tie → Verdict Outcome
-untie f none = refuse 24
-untie f (some t) = says (forwarded f 23 t.handle) (tie f.channel none)
+untie f None = refuse 24
+untie f (Some t) = says (forwarded f 23 t.handle) (tie f.channel None)
 
 abbrev pub pass_on : Frame → ℕ → Option Tie → Verdict Outcome
-pass_on f code none = refuse 24
-pass_on f code (some t) = says (forwarded f code t.handle) stay
+pass_on f code None = refuse 24
+pass_on f code (Some t) = says (forwarded f code t.handle) stay
 
 abbrev pub new_session : Role → Frame → ℕ → Option (List ℕ) → Verdict Outcome
 new_session dialler f h l = refuse 25
-new_session listener f h none = refuse 25
-new_session listener f h (some []) = refuse 25
-new_session listener f h (some (ch ∷ rest)) = says (began f.size ch h f.from (f.size - f.from)) (take_and_tie ch rest h f.channel)
+new_session listener f h None = refuse 25
+new_session listener f h (Some []) = refuse 25
+new_session listener f h (Some (ch ∷ rest)) = says (began f.size ch h f.from (f.size - f.from)) (take_and_tie ch rest h f.channel)
 
 -- a Begin that answers one of ours names its channel; one without begins a session
 abbrev pub begun : Role → Connection → Frame → ℕ → List ℕ → Verdict Outcome
@@ -174,19 +173,19 @@ performative_read role S c f h p =
     (session_read role c f h p.code (remote_channel p))))
 
 abbrev pub frame_read : Role → Settings → Connection → ℕ → Frame × Option Performative → Verdict Outcome
-frame_read role S c h (f, none) = says (nothing_to_do f.size) stay
-frame_read role S c h (f, some p) = performative_read role S c f h p
+frame_read role S c h (f, None) = says (nothing_to_do f.size) stay
+frame_read role S c h (f, Some p) = performative_read role S c f h p
 
 abbrev pub closes : Option ErrorText → State → Verdict State
-closes none x = along send_close x
-closes (some e) x = along send_close_with_error x
+closes None x = along send_close x
+closes (Some e) x = along send_close_with_error x
 
 -- a listener's Begin on a channel, that names a remote-channel, ties it through this channel to the handle that holds it
 abbrev pub tied_by : Role → List ℕ → ℕ → Option ℕ → Verdict Effect
 tied_by dialler rs ch h = accept stay
 tied_by listener [] ch h = accept stay
-tied_by listener (r ∷ rs) ch none = refuse 24
-tied_by listener (r ∷ rs) ch (some h) = accept (tie r (some (tie_of ch h)))
+tied_by listener (r ∷ rs) ch None = refuse 24
+tied_by listener (r ∷ rs) ch (Some h) = accept (tie r (Some (tie_of ch h)))
 
 abbrev pub session_sent : Role → Connection → List ℕ → Frame × Performative → Verdict Outcome
 session_sent role c s r =
@@ -196,13 +195,13 @@ session_sent role c s r =
     writes bytes e)))
 
 abbrev pub given : ℕ → Option (List ℕ) → Verdict Outcome
-given h none = refuse 21
-given h (some []) = refuse 23
-given h (some (ch ∷ rest)) = says (channel ch) (take ch rest h)
+given h None = refuse 21
+given h (Some []) = refuse 23
+given h (Some (ch ∷ rest)) = says (channel ch) (take ch rest h)
 
 abbrev pub released : ℕ → Option ℕ → Verdict Outcome
-released ch none = refuse 26
-released ch (some h) = says (freed h) (give ch)
+released ch None = refuse 26
+released ch (Some h) = says (freed h) (give ch)
 
 abbrev pub ticked : State → Verdict Outcome
 ticked x = cond (is End x) (says stop stay) (cond (is_one_of silent x) (writes [] stay) (writes (frame_bytes 0 []) stay))

@@ -1,8 +1,7 @@
 -- Part 2's table of connection states beside ours: the diagram and the table of legal sends and receives of its section 2.4.7, and each action and state where a connection here does otherwise.
 -- proofs/Part2.antt computes that these are all.
 -- Assumes nothing: these are definitions.
-use Rattle.std.specs.Prelude.{Bool, true, false, cond, not, List, [], ◌∷◌, ◌++◌, map, ℕ, eqb, replicate}
-use Rattle.std.proofs.Math.Option.{none, some}
+use Rattle.std.specs.Prelude.{Bool, true, false, cond, not, List, [], ◌∷◌, ◌++◌, map, ℕ, eqb, replicate, None, Some}
 use Rattle.octets.specs.Verdict.{Verdict, refuse, accept}
 use Rattle.protocol_header.specs.Header.{version100, header_bytes}
 use Rattle.frame_encoder.specs.Frames.{Settings, ErrorText, frame_bytes, open_body, close_body}
@@ -119,18 +118,18 @@ there a x = followed a x (along (arrows a) x)
 -- ---- the same action here
 
 abbrev pub settings : Settings
-settings = record { container_id = []; max_frame_size = 512; channel_max = 0; idle_time_out = none }
+settings = record { container_id = []; max_frame_size = 512; channel_max = 0; idle_time_out = None }
 
 -- channel 0 is taken and tied, so that nothing but the state can refuse
 abbrev pub standing : State → Connection
-standing x = connection x 512 512 (some 0) (some []) (with nowhere 0 (some 1)) (with nowhere 0 (some (tie_of 0 1)))
+standing x = connection x 512 512 (Some 0) (Some []) (with nowhere 0 (Some 1)) (with nowhere 0 (Some (tie_of 0 1)))
 
 -- a Detach of handle 0, on channel 0
 abbrev pub detach : List ℕ
 detach = frame_bytes 0 (0x00 ∷ 0x53 ∷ 0x16 ∷ 0xC0 ∷ 0x02 ∷ 0x01 ∷ 0x43 ∷ [])
 
 abbrev pub failure : ErrorText
-failure = record { condition = 0x78 ∷ []; description = none }
+failure = record { condition = 0x78 ∷ []; description = None }
 
 unfoldable pub room : List ℕ
 room = replicate 32768 0
@@ -139,13 +138,13 @@ abbrev pub as_call : Action → Call
 as_call (R HDR) = receive_header_from (header_bytes (version100 0))
 as_call other_r = receive_header_from (header_bytes (version100 3))
 as_call (R OPEN) = receive_frame (frame_bytes 0 (open_body settings)) 0
-as_call (R CLOSE) = receive_frame (frame_bytes 0 (close_body none)) 0
+as_call (R CLOSE) = receive_frame (frame_bytes 0 (close_body None)) 0
 as_call (R SESSION) = receive_frame detach 0
 as_call (R EMPTY) = receive_frame (frame_bytes 0 []) 0
 as_call (S HDR) = send_header_to room
 as_call (S OPEN) = send_open_to room
-as_call (S CLOSE) = send_close_to none room
-as_call error_s = send_close_to (some failure) room
+as_call (S CLOSE) = send_close_to None room
+as_call error_s = send_close_to (Some failure) room
 as_call (S SESSION) = send_session_frame detach room
 as_call (S EMPTY) = tick room
 

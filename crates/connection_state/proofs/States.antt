@@ -3,7 +3,7 @@
 use mathlib.Core.Path.{◌≡◌, refl, sym, ◌∙◌, ap, subst}
 use mathlib.Core.Bool.{Bool, true, false, ◌&&◌}
 use mathlib.Core.List.{List, [], ◌∷◌}
-use mathlib.Core.Option.{Option, none, some}
+use Rattle.std.specs.Prelude.{Option, None, Some}
 use Prim.Native.Nat.{ℕ, zero, suc}
 use lib.Dec.{T, eqb, eqb→eq}
 use lib.ListN.{get_or}
@@ -59,19 +59,19 @@ everywhere f e t x = subst (λ y. T (f y)) (numbered_state x) (nth f e states t 
 -- ---- the state that has a number
 
 abbrev holds : State → Option State → Bool
-holds x none = false
-holds x (some y) = is x y
+holds x None = false
+holds x (Some y) = is x y
 
-held : (x : State) (o : Option State) → T (holds x o) → o ≡ some x
-held x none t = absurd t
-held x (some y) t = ap some (sym (is_state x y t))
+held : (x : State) (o : Option State) → T (holds x o) → o ≡ Some x
+held x None t = absurd t
+held x (Some y) t = ap Some (sym (is_state x y t))
 
-pub numbered_back : (x : State) → with_number (numbered x) ≡ some x
+pub numbered_back : (x : State) → with_number (numbered x) ≡ Some x
 unfolding with_number
 numbered_back x = held x (numbered_in states (numbered x)) (everywhere (λ y. holds y (numbered_in states (numbered y))) tt tt x)
 
 -- in the arm of the state's number
-pub number_told : (x : State) (k : ℕ) → k ≡ numbered x → some x ≡ with_number k
+pub number_told : (x : State) (k : ℕ) → k ≡ numbered x → Some x ≡ with_number k
 number_told x k e = sym (numbered_back x) ∙ ap with_number (sym e)
 
 -- in the arm for all the other numbers: what holds already, and that the number is none of these states'
@@ -79,11 +79,11 @@ abbrev pub Unnumbered : Type 0 → List State → ℕ → Type 0
 Unnumbered A [] k = A
 Unnumbered A (x ∷ xs) k = Unnumbered (A × (k ≡ numbered x → ⊥)) xs k
 
-pub none_numbered : (k : ℕ) → Unnumbered (Unit {0}) states k → none ≡ with_number k
+pub none_numbered : (k : ℕ) → Unnumbered (Unit {0}) states k → None ≡ with_number k
 unfolding with_number
 none_numbered k u = (all (Unit {0}) states u).1
   where
-    all : (A : Type 0) (xs : List State) → Unnumbered A xs k → A × (none ≡ numbered_in xs k)
+    all : (A : Type 0) (xs : List State) → Unnumbered A xs k → A × (None ≡ numbered_in xs k)
     all A [] a = (a, refl)
     all A (x ∷ xs) a =
         let r = all (A × (k ≡ numbered x → ⊥)) xs a in

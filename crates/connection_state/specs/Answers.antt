@@ -1,15 +1,11 @@
 -- What the values of the crate's types stand for.
 -- Assumes nothing: these are definitions.
-use Rattle.std.proofs.Math.Option.{Option, none, some}
+use Rattle.std.specs.Prelude.{Option, None, Some}
 use Rattle.octets.specs.Verdict.{Verdict, refuse, accept}
 use Rattle.connection_state.specs.States.{State}
 use Rattle.connection_state.specs.States as M
 use Rattle.connection_state.specs.declared.ConnectionState.{ConnectionState}
 use Rattle.connection_state.specs.declared.ConnectionState.TheVariants.{Start, HeaderReceived, HeaderSent, HeaderExchange, OpenPipe, OpenClosePipe, OpenReceived, OpenSent, ClosePipe, Opened, CloseReceived, CloseSent, Discarding, End}
-use Rattle.connection_state.specs.declared.NumberedState.{NumberedState}
-use Rattle.connection_state.specs.declared.NumberedState.TheVariants.{Is, Unknown}
-use Rattle.connection_state.specs.declared.Moved.{Moved}
-use Rattle.connection_state.specs.declared.Moved.TheVariants.{To, Illegal}
 
 abbrev pub state_says : ConnectionState → State
 state_says Start = M.Start
@@ -28,10 +24,10 @@ state_says Discarding = M.Discarding
 state_says End = M.End
 
 -- a move that is illegal is 20
-abbrev pub moved_says : Moved → Verdict State
-moved_says (To s) = accept (state_says s)
-moved_says Illegal = refuse 20
+abbrev pub moved_says : Option ConnectionState → Verdict State
+moved_says (Some s) = accept (state_says s)
+moved_says None = refuse 20
 
-abbrev pub numbered_says : NumberedState → Option State
-numbered_says (Is s) = some (state_says s)
-numbered_says Unknown = none
+abbrev pub numbered_says : Option ConnectionState → Option State
+numbered_says (Some s) = Some (state_says s)
+numbered_says None = None

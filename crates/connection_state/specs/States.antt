@@ -1,7 +1,6 @@
 -- The states of a connection and the moves between them: Part 2 section 2.4.6, as document 01 has them under "The connection's calls".
 -- Assumes nothing: these are definitions.
-use Rattle.std.specs.Prelude.{Bool, true, false, cond, List, [], ◌∷◌, ℕ, eqb}
-use Rattle.std.proofs.Math.Option.{Option, none, some}
+use Rattle.std.specs.Prelude.{Bool, true, false, cond, List, [], ◌∷◌, ℕ, eqb, Option, None, Some}
 use Rattle.octets.specs.Verdict.{Verdict, refuse, accept}
 
 pub data State : Type 0 where
@@ -30,8 +29,8 @@ states =
 
 -- the first of these that has the number
 abbrev pub numbered_in : List State → ℕ → Option State
-numbered_in [] k = none
-numbered_in (x ∷ xs) k = cond (eqb (numbered x) k) (some x) (numbered_in xs k)
+numbered_in [] k = None
+numbered_in (x ∷ xs) k = cond (eqb (numbered x) k) (Some x) (numbered_in xs k)
 
 -- the state that has the number
 unfoldable pub with_number : ℕ → Option State

@@ -1,196 +1,191 @@
-// The line of a header, and the line of a frame. Each answers how many bytes it took, or 0 where the program stops.
-use crate::columns::{column, number, print, print_number, text};
+// The lines: for each header and each frame where it stands, its columns, and what it says.
+ghost use Rattle.std.specs.Prelude.{◌-◌, length};
+ghost use Rattle.std.specs.Iterator.{at_most};
+
+use crate::says::{Says, name};
 use frame_decoder::Frame;
-use performatives::{Condition, Performative, RemoteChannel};
-use protocol_header::{HeaderRead, ProtocolHeader};
-use std::io;
-use words::part;
+use octets::Refusal;
+use performatives::Performative;
+use protocol_header::HeaderRead;
+use std::fmt;
 
 const LIMIT: u32 = 16384;
 
 const HIGHEST: u16 = 65535;
 
-fn refused(rt: &impl Print, k: u64) -> io::Result<()> {
-    print(rt, b"refused ")?;
-    print_number(rt, k)?;
-    print(rt, b"\n")
-}
+// A number in a column, or a dash where there is none.
+#[derive(Clone, Copy)]
+struct Column(Option<usize>);
 
-fn other(rt: &impl Print, h: ProtocolHeader) -> io::Result<()> {
-    let id = h.id;
-    print(rt, b"other protocol: id ")?;
-    print_number(rt, protocol_header::id_number(id) as u64)?;
-    print(rt, b", version ")?;
-    print_number(rt, h.major as u64)?;
-    print(rt, b".")?;
-    print_number(rt, h.minor as u64)?;
-    print(rt, b".")?;
-    print_number(rt, h.revision as u64)?;
-    print(rt, b"\n")
-}
-
-pub(crate) fn header(rt: &impl Print, s: &[u8]) -> io::Result<usize> {
-    print(rt, b"  header")?;
-    let read = protocol_header::read(s);
-    match read {
-        HeaderRead::Amqp => {
-            print(
-                rt,
-                b"       8        -  -                   -  AMQP 1.0.0\n",
-            )?;
-            Ok(8)
-        }
-        HeaderRead::Other(h) => {
-            print(rt, b"       8        -  -                   -  ")?;
-            other(rt, h)?;
-            Ok(8)
-        }
-        HeaderRead::Malformed => {
-            print(rt, b"       8        -  -                   -  ")?;
-            refused(rt, 2)?;
-            Ok(8)
-        }
-        HeaderRead::Missing => {
-            print(rt, b"       -        -  -                   -  ")?;
-            refused(rt, 1)?;
-            Ok(0)
+impl fmt::Display for Column {
+    fn fmt<W: fmt::Write>(&self, f: &mut fmt::Formatter<W>) -> fmt::Result {
+        match self.0 {
+            Some(n) => n.fmt(f),
+            None => f.pad("-"),
         }
     }
 }
 
-fn name(rt: &impl Print, p: Performative) -> io::Result<()> {
-    match p {
-        Performative::Open {
-            max_frame_size: _,
-            channel_max: _,
-            idle_time_out: _,
-        } => column(rt, b"  open", 14),
-        Performative::Begin(_) => column(rt, b"  begin", 14),
-        Performative::Attach => column(rt, b"  attach", 14),
-        Performative::Flow => column(rt, b"  flow", 14),
-        Performative::Transfer => column(rt, b"  transfer", 14),
-        Performative::Disposition => column(rt, b"  disposition", 14),
-        Performative::Detach(_) => column(rt, b"  detach", 14),
-        Performative::End(_) => column(rt, b"  end", 14),
-        Performative::Close(_) => column(rt, b"  close", 14),
-    }
+// A line. After a header or frame of unknown length there is none.
+#[derive(Clone, Copy, Drop)]
+pub(crate) struct Row<'a> {
+    what: &'static str,
+    length: Column,
+    channel: Column,
+    performative: &'static str,
+    payload: Column,
+    says: Says<'a>,
+    next: Option<usize>,
 }
 
-fn condition(rt: &impl Print, c: Condition, body: &[u8]) -> io::Result<()> {
-    match c {
-        Condition::Absent => Ok(()),
-        Condition::At { from, len } => {
-            print(rt, b"error ")?;
-            if from <= body.len() {
-                text(rt, part(&body[from..], 0, len))?;
+impl<'a> Row<'a> {
+    // A line with a dash in each column, and where the next one's place is known how far that is.
+    fn dashes(what: &'static str, says: Says<'a>, next: Option<usize>) -> Self {
+        Row {
+            what,
+            length: Column(None),
+            channel: Column(None),
+            performative: "-",
+            payload: Column(None),
+            says,
+            next,
+        }
+    }
+
+    fn header(bytes: &'a [u8]) -> Self {
+        let (says, length) = match protocol_header::read(bytes) {
+            Ok(HeaderRead::Amqp) => (Says::Amqp, Some(8)),
+            Ok(HeaderRead::Other(header)) => (Says::Other(header), Some(8)),
+            Err(Refusal::BytesMissing) => (Says::Refused(Refusal::BytesMissing), None),
+            Err(refusal) => (Says::Refused(refusal), Some(8)),
+        };
+        Row {
+            length: Column(length),
+            ..Row::dashes("header", says, length)
+        }
+    }
+
+    // A refused frame is passed over by its length, if that can be known.
+    fn refused(bytes: &'a [u8], refusal: Refusal) -> Self {
+        match refusal {
+            Refusal::BytesMissing | Refusal::TooShort | Refusal::OverReadingLimit => {
+                Row::dashes("frame", Says::Lost(refusal), None)
             }
-            Ok(())
+            _ => {
+                let size = octets::number(&bytes[..bytes.len().min(4)]);
+                Row::dashes("frame", Says::Refused(refusal), Some(size as usize))
+            }
+        }
+    }
+
+    fn empty(channel: u16, size: usize) -> Self {
+        Row {
+            what: "frame",
+            length: Column(Some(size)),
+            channel: Column(Some(usize::from(channel))),
+            performative: "empty",
+            payload: Column(Some(0)),
+            says: Says::NothingToDo,
+            next: Some(size),
+        }
+    }
+
+    fn performative(
+        channel: u16,
+        size: usize,
+        performative: Performative,
+        end: usize,
+        body: &'a [u8],
+    ) -> Self {
+        Row {
+            what: "frame",
+            length: Column(Some(size)),
+            channel: Column(Some(usize::from(channel))),
+            performative: name(performative),
+            payload: Column(body.len().checked_sub(end)),
+            says: Says::Performative(performative, body),
+            next: Some(size),
+        }
+    }
+
+    fn frame(bytes: &'a [u8]) -> Self {
+        let frame = match frame_decoder::read(bytes, LIMIT, HIGHEST) {
+            Ok(frame) => frame,
+            Err(refusal) => return Row::refused(bytes, refusal),
+        };
+        match frame {
+            Frame::Empty {
+                channel,
+                size,
+                from: _,
+            } => Row::empty(channel, size),
+            Frame::Body {
+                channel,
+                size,
+                from: _,
+                performative,
+                end,
+            } => {
+                let body = frame_decoder::body(bytes);
+                Row::performative(channel, size, performative, end, body)
+            }
+        }
+    }
+
+    // The line for what `bytes` begin with.
+    fn read(bytes: &'a [u8]) -> Self {
+        if bytes.starts_with(b"A") {
+            Row::header(bytes)
+        } else {
+            Row::frame(bytes)
         }
     }
 }
 
-fn remote(rt: &impl Print, r: RemoteChannel) -> io::Result<()> {
-    match r {
-        RemoteChannel::Absent => Ok(()),
-        RemoteChannel::Is(n) => {
-            print(rt, b"remote-channel ")?;
-            print_number(rt, n as u64)
-        }
-    }
-}
-
-fn open(
-    rt: &impl Print,
-    max_frame_size: u32,
-    channel_max: u16,
-    idle_time_out: u32,
-) -> io::Result<()> {
-    print(rt, b"max-frame-size ")?;
-    print_number(rt, max_frame_size as u64)?;
-    print(rt, b", channel-max ")?;
-    print_number(rt, channel_max as u64)?;
-    if 0 < idle_time_out {
-        print(rt, b", idle-time-out ")?;
-        print_number(rt, idle_time_out as u64)?;
-    }
-    Ok(())
-}
-
-fn says(rt: &impl Print, p: Performative, body: &[u8]) -> io::Result<()> {
-    match p {
-        Performative::Open {
-            max_frame_size,
-            channel_max,
-            idle_time_out,
-        } => open(rt, max_frame_size, channel_max, idle_time_out)?,
-        Performative::Begin(r) => remote(rt, r)?,
-        Performative::Attach => {}
-        Performative::Flow => {}
-        Performative::Transfer => {}
-        Performative::Disposition => {}
-        Performative::Detach(c) => condition(rt, c, body)?,
-        Performative::End(c) => condition(rt, c, body)?,
-        Performative::Close(c) => condition(rt, c, body)?,
-    }
-    print(rt, b"\n")
-}
-
-// A refused frame is passed over by its length, if that can be known.
-fn refused_frame(rt: &impl Print, s: &[u8], k: u8) -> io::Result<usize> {
-    print(rt, b"       -        -  -                   -  ")?;
-    refused(rt, k as u64)?;
-    if k <= 4 {
-        print(
-            rt,
-            b"stopped: it is not known where the next frame starts\n",
-        )?;
-        return Ok(0);
-    }
-    Ok(octets::number(part(s, 0, 4)) as usize)
-}
-
-fn performative(
-    rt: &impl Print,
-    channel: u16,
-    size: usize,
-    p: Performative,
-    end: usize,
-    body: &[u8],
-) -> io::Result<()> {
-    number(rt, size as u64, 8)?;
-    number(rt, channel as u64, 9)?;
-    name(rt, p)?;
-    if end <= body.len() {
-        number(rt, (body.len() - end) as u64, 9)?;
-    }
-    print(rt, b"  ")?;
-    says(rt, p, body)
-}
-
-pub(crate) fn frame(rt: &impl Print, s: &[u8]) -> io::Result<usize> {
-    print(rt, b"  frame ")?;
-    let read = frame_decoder::read(s, LIMIT, HIGHEST);
-    match read {
-        Frame::Refused(k) => refused_frame(rt, s, k),
-        Frame::Empty {
+impl fmt::Display for Row<'_> {
+    fn fmt<W: fmt::Write>(&self, f: &mut fmt::Formatter<W>) -> fmt::Result {
+        let Row {
+            what,
+            length,
             channel,
-            size,
-            from: _,
-        } => {
-            number(rt, size as u64, 8)?;
-            number(rt, channel as u64, 9)?;
-            print(rt, b"  empty               0  nothing to do\n")?;
-            Ok(size)
+            performative,
+            payload,
+            says,
+            next: _,
+        } = *self;
+        write!(f, "{what:<6}{length:>8}{channel:>9}")?;
+        write!(f, "  {performative:<12}{payload:>9}  {says}")
+    }
+}
+
+// The lines of a conversation, each with the place that it is about.
+#[derive(Drop)]
+pub(crate) struct Rows<'a> {
+    bytes: &'a [u8],
+    at: usize,
+}
+
+impl<'a> Rows<'a> {
+    pub(crate) fn new(bytes: &'a [u8]) -> Self {
+        Rows { bytes, at: 0 }
+    }
+}
+
+impl<'a> Iterator for Rows<'a> {
+    type Item = (usize, Row<'a>);
+
+    ghost remaining = { λ rows. at_most (length rows.bytes.now - rows.at) };
+
+    fn next(&mut self) -> Option<(usize, Row<'a>)> {
+        let at = self.at;
+        if self.bytes.len() <= at {
+            return None;
         }
-        Frame::Body {
-            channel,
-            size,
-            from: _,
-            performative: p,
-            end,
-        } => {
-            performative(rt, channel, size, p, end, frame_decoder::body(s))?;
-            Ok(size)
-        }
+        let row = Row::read(&self.bytes[at..]);
+        self.at = match row.next {
+            Some(length) if 0 < length => at.saturating_add(length),
+            _ => self.bytes.len(),
+        };
+        Some((at, row))
     }
 }

@@ -2,7 +2,7 @@
 -- Assumes nothing.
 use mathlib.Core.Path.{◌≡◌, refl, sym, ◌∙◌, ap, subst}
 use mathlib.Core.List.{List}
-use mathlib.Core.Option.{Option, some}
+use Rattle.std.specs.Prelude.{Option, Some}
 use Prim.Native.Nat.{ℕ, suc, ◌<◌}
 use native.Mathlib.Omega.{arith}
 use Rattle.octets.specs.Verdict.{Verdict, refuse, accept}
@@ -80,7 +80,7 @@ same_rule p s = rw p s
 -- ---- an incoming channel has another tie, or none
 
 -- a taken channel is one of those that the peer may use
-pub taken_within : (w : Whole) → Sound w → (ch h : ℕ) → taken_of w ch ≡ some h → ch < places_of w.endpoint
+pub taken_within : (w : Whole) → Sound w → (ch h : ℕ) → taken_of w ch ≡ Some h → ch < places_of w.endpoint
 taken_within w i ch h e = omega (arith, taken_low w.endpoint.outgoing w.tables i.numbers ch h e, i.most)
 
 module _

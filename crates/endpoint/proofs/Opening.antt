@@ -3,7 +3,7 @@
 use mathlib.Core.Path.{◌≡◌, refl, sym, ◌∙◌, ap, subst}
 use mathlib.Core.Bool.{Bool, true, false}
 use mathlib.Core.List.{List}
-use mathlib.Core.Option.{none, some}
+use Rattle.std.specs.Prelude.{None, Some}
 use Prim.Native.Nat.{ℕ, suc, min, ◌≤◌}
 use native.Mathlib.Omega.{arith}
 use lib.ListN.{length}
@@ -74,13 +74,13 @@ agreed e size most local r w h o l n c p q =
     (λ i. endpoint_of e.role e.local_open (p i) (q i) (d i))
 
 -- nothing was agreed, so the peer's Open has not come
-not_come : (o : OutgoingChannels) → agreed_says o ≡ none → o.opened ≡ false
+not_come : (o : OutgoingChannels) → agreed_says o ≡ None → o.opened ≡ false
 unfolding agreed_says
 not_come o e = go o.opened refl
   where
     go : (b : Bool) → o.opened ≡ b → o.opened ≡ false
     go false q = q
-    go true q = let z : agreed_says o ≡ some o.highest = rw q in apart (cc)
+    go true q = let z : agreed_says o ≡ Some o.highest = rw q in apart (cc)
 
 min_low : (m n : ℕ) → min m n ≤ m
 min_low m n = omega arith
@@ -88,9 +88,9 @@ min_low m n = omega arith
 -- the peer's max-frame-size and channel-max, before which nothing is agreed
 pub record Agrees (size most : ℕ) (before later : Whole) : Type 0 where
   pub agrees :
-      Sound before → agreed_of before ≡ none
+      Sound before → agreed_of before ≡ None
       → (x y : State) → view_as y later ≡ apply (settings_of before) (agree y (min (settings_of before).channel_max most) (clamped size)) (view_as x before)
-  pub agrees_sound : Sound before → agreed_of before ≡ none → Sound later
+  pub agrees_sound : Sound before → agreed_of before ≡ None → Sound later
   pub agrees_same : Same before later
 
 module _ (e : Endpoint) (size most : ℕ) where

@@ -3,7 +3,7 @@
 use mathlib.Core.Path.{◌≡◌, refl, sym, ap, ◌∙◌, subst}
 use mathlib.Core.Bool.{Bool, true, false, cond, and-eq-true_iff}
 use mathlib.Core.List.{List, [], ◌∷◌}
-use mathlib.Core.Option.{Option, none, some}
+use Rattle.std.specs.Prelude.{Option, None, Some, Result, Ok, Err}
 use Prim.Native.Nat.{ℕ, suc, ◌<◌, ◌≤◌}
 use native.Mathlib.Omega.{arith}
 use types.Run.{OneOf, miss}
@@ -13,20 +13,18 @@ use lib.Dec.{leb, eqb}
 use borrow.Author.Tests.{leb-true, eqb-true}
 use Rattle.octets.specs.Verdict.{Verdict, refuse, accept, and_then}
 use Rattle.octets.specs.Output.{room_for, laid, counted, Wrote}
-use Rattle.octets.specs.Output as O
-use Rattle.octets.specs.declared.Written.{Written}
-use Rattle.octets.specs.declared.Written.TheVariants.{Bytes, Refused as NotWritten}
+use Rattle.octets.specs.Refusal.{number_of, judged}
+use Rattle.octets.specs.declared.Refusal.{Refusal}
+use Rattle.octets.specs.declared.Refusal.TheVariants.{NoRoom, IllegalState, NotFound}
 use Rattle.octets.proofs.Laws.{require_on, require_off, then_accept, then_refuse, room_yes, room_no}
 use Rattle.values.proofs.Apart.{then_was}
 use Rattle.performatives.specs.declared.Performative as P
 use Rattle.performatives.specs.declared.Performative.TheVariants.{Open, Begin, Attach, Flow, Transfer, Disposition, Detach, End, Close}
-use Rattle.performatives.specs.declared.RemoteChannel.{RemoteChannel}
-use Rattle.performatives.specs.declared.RemoteChannel.TheVariants.{Absent, Is}
 use Rattle.performatives.specs.Performative.{Performative, Said, said, values_in, values_of}
 use Rattle.performatives.specs.Answers.{performative_says}
 use Rattle.performatives.specs.contracts.Performative.{the_type as performative_type}
 use Rattle.frame_decoder.specs.declared.Frame as F
-use Rattle.frame_decoder.specs.declared.Frame.TheVariants.{Refused as NotRead, Empty, Body}
+use Rattle.frame_decoder.specs.declared.Frame.TheVariants.{Empty, Body}
 use Rattle.frame_decoder.specs.Frame.{Frame, FrameSaid, within, begins_for, session_frame, session_said}
 use Rattle.frame_decoder.specs.Answers.{ending_at, frame_says, session_answer}
 use Rattle.frame_decoder.proofs.Laws.{session_sendable}
@@ -37,19 +35,14 @@ use Rattle.connection_model.specs.Connection as M
 use Rattle.connection_model.specs.Connection.{Effect, Outcome, Answer, stay, tie, wrote, writes, tied_by, session_sent, send_session_frame, decide, answered, after, written}
 use Rattle.channels.specs.Ties.{Tie, tie_of}
 use Rattle.channels.specs.Lists.{Changes}
-use Rattle.channels.specs.declared.Held.{Held}
-use Rattle.channels.specs.declared.Held.TheVariants.{Handle, Nothing}
-use Rattle.channels.specs.Channels.{held_says}
 use Rattle.channels.proofs.Limits.{apart}
 use Rattle.endpoint.specs.declared.Role.TheVariants.{Dialler, Listener}
 use Rattle.endpoint.specs.declared.Endpoint.{Endpoint}
 use Rattle.endpoint.specs.declared.SessionSent.{SessionSent}
 use Rattle.endpoint.specs.declared.OutgoingTie.{OutgoingTie}
-use Rattle.endpoint.specs.declared.OutgoingTie.TheVariants.{Stay, To, NotFound}
-use Rattle.endpoint.specs.Answers.{Whole, whole, role_says, role_of, settings_of, places_of, taken_of, view_as, sent_says, tie_says, refusal_of}
+use Rattle.endpoint.specs.Answers.{Whole, whole, role_says, role_of, settings_of, places_of, taken_of, view_as, sent_says, tie_says, tied_says}
 use Rattle.endpoint.specs.Promises.{Sound, Send}
-use Rattle.endpoint.specs.Outgoing.{Low, AsksTie, Ties, ties_and_writes}
-use Rattle.endpoint.specs.contracts.OutgoingTie.{the_type as tie_type}
+use Rattle.endpoint.specs.Outgoing.{Low, AsksTie, Ties, writes_with}
 use Rattle.endpoint.proofs.Basics.{same_all, stays, taken_within, retied, retied_sound, retied_same}
 
 -- ---- outgoing_tie
@@ -74,69 +67,66 @@ other_names (End e) h = refl
 other_names (Close e) h = refl
 
 module _ (self : Endpoint) (t : List ℕ) (channel : ℕ) (p : P.Performative) where
-  asks_none : (id : List ℕ) → accept stay ≡ tied_by (role_of (whole self t id)) (named p) channel (taken_of (whole self t id) channel) → AsksTie (whole self t id) channel (named p) Stay
-  asks_none id q = record { asks = λ i. q; only_named = λ n ch h z. apart (cc); of_channels = λ n ch h z. apart (cc) }
+  asks_none : (id : List ℕ) → accept stay ≡ tied_by (role_of (whole self t id)) (named p) channel (taken_of (whole self t id) channel) → AsksTie (whole self t id) channel (named p) (Ok None)
+  asks_none id q = record { asks = λ i. q; only_named = λ to z. apart (cc); of_channels = λ to z. apart (cc) }
 
-  pub tie_dialler : self.role ≡ Dialler → (id : List ℕ) → AsksTie (whole self t id) channel (named p) Stay
+  pub tie_dialler : self.role ≡ Dialler → (id : List ℕ) → AsksTie (whole self t id) channel (named p) (Ok None)
   tie_dialler e id = asks_none id (sym (ap (λ x. tied_by (role_says x) (named p) channel (taken_of (whole self t id) channel)) e))
 
-  none_named : named p ≡ [] → (id : List ℕ) → AsksTie (whole self t id) channel (named p) Stay
+  none_named : named p ≡ [] → (id : List ℕ) → AsksTie (whole self t id) channel (named p) (Ok None)
   none_named e id =
       asks_none id
       (unnamed (role_of (whole self t id)) channel (taken_of (whole self t id) channel) ∙ sym (ap (λ l. tied_by (role_of (whole self t id)) l channel (taken_of (whole self t id) channel)) e))
 
-  pub tie_other : OneOf (0 ∷ 2 ∷ 3 ∷ 4 ∷ 5 ∷ 6 ∷ 7 ∷ 8 ∷ []) (tag_of performative_type p) → (id : List ℕ) → AsksTie (whole self t id) channel (named p) Stay
+  pub tie_other : OneOf (0 ∷ 2 ∷ 3 ∷ 4 ∷ 5 ∷ 6 ∷ 7 ∷ 8 ∷ []) (tag_of performative_type p) → (id : List ℕ) → AsksTie (whole self t id) channel (named p) (Ok None)
   tie_other h = none_named (other_names p h)
 
-  module _ (remote : RemoteChannel) (b : p ≡ Begin remote) where
-    pub tie_unnamed : remote ≡ Absent → (id : List ℕ) → AsksTie (whole self t id) channel (named p) Stay
+  module _ (remote : Option ℕ) (b : p ≡ Begin remote) where
+    pub tie_unnamed : remote ≡ None → (id : List ℕ) → AsksTie (whole self t id) channel (named p) (Ok None)
     tie_unnamed a = none_named (rw (b, a))
 
-    module _ (role : self.role ≡ Listener) (r : ℕ) (is : remote ≡ Is r) (a : Held) (f : (id : List ℕ) → Sound (whole self t id) → held_says a ≡ taken_of (whole self t id) channel) where
+    module _ (role : self.role ≡ Listener) (r : ℕ) (is : remote ≡ Some r) (a : Option ℕ) (f : (id : List ℕ) → Sound (whole self t id) → a ≡ taken_of (whole self t id) channel) where
       names_one : named p ≡ r ∷ []
       names_one = rw (b, is)
 
-      asked : (id : List ℕ) → Sound (whole self t id) → (o : Option ℕ) → held_says a ≡ o → tied_by M.listener (r ∷ []) channel o ≡ tied_by (role_of (whole self t id)) (named p) channel (taken_of (whole self t id) channel)
+      asked : (id : List ℕ) → Sound (whole self t id) → (o : Option ℕ) → a ≡ o → tied_by M.listener (r ∷ []) channel o ≡ tied_by (role_of (whole self t id)) (named p) channel (taken_of (whole self t id) channel)
       asked id i o q = rw (role, names_one, ← f id i, q)
 
-      pub tie_not : a ≡ Nothing → (id : List ℕ) → AsksTie (whole self t id) channel (named p) NotFound
-      tie_not q id = record { asks = λ i. asked id i none (ap held_says q); only_named = λ n ch h z. apart (cc); of_channels = λ n ch h z. apart (cc) }
+      pub tie_not : a ≡ None → (id : List ℕ) → AsksTie (whole self t id) channel (named p) (Err NotFound)
+      tie_not q id = record { asks = λ i. asked id i None q; only_named = λ to z. apart (cc); of_channels = λ to z. apart (cc) }
 
-      pub tie_to_lem : (h : ℕ) → a ≡ Handle h → (id : List ℕ) → AsksTie (whole self t id) channel (named p) (To r channel h)
+      pub tie_to_lem : (h : ℕ) → a ≡ Some h → (id : List ℕ) → AsksTie (whole self t id) channel (named p) (Ok (Some (record { incoming = r; outgoing = channel; handle = h })))
       tie_to_lem h q id = record {
-        asks = λ i. asked id i (some h) (ap held_says q);
-        only_named = λ n ch g z. let y : r ≡ n = cc in ([], names_one ∙ ap (λ k. k ∷ []) y);
-        of_channels = λ n ch g z i. let y : channel ≡ ch = cc in subst (λ k. k < places_of self) y (taken_within (whole self t id) i channel h (sym (f id i) ∙ ap held_says q));
+        asks = λ i. asked id i (Some h) q;
+        only_named = λ to z. let y : record { incoming = r; outgoing = channel; handle = h } ≡ to = cc in ([], names_one ∙ ap (λ (x : OutgoingTie). x.incoming ∷ []) y);
+        of_channels = λ to z i.
+            let y : record { incoming = r; outgoing = channel; handle = h } ≡ to = cc in
+            subst (λ (x : OutgoingTie). x.outgoing < places_of self) y (taken_within (whole self t id) i channel h (sym (f id i) ∙ q));
       }
 
 -- ---- make_tie
 
-pub tied_not : (self : Endpoint) (t : List ℕ) (tie : OutgoingTie) → OneOf (0 ∷ 2 ∷ []) (tag_of tie_type tie) → (id : List ℕ) → Ties (whole self t id) tie (whole self t id)
-tied_not self t Stay o id = record { ties = λ i e q x. let z : e ≡ stay = cc in rw z; ties_sound = λ i. i; ties_same = same_all (whole self t id) }
-tied_not self t (To n ch h) o id = absurd (miss (0 ∷ 2 ∷ []) 1 tt o)
-tied_not self t NotFound o id = record { ties = λ i e q x. apart (cc); ties_sound = λ i. i; ties_same = same_all (whole self t id) }
+pub tied_not : (self : Endpoint) (t : List ℕ) (wanted : Option OutgoingTie) → wanted ≡ None → (id : List ℕ) → Ties (whole self t id) wanted (whole self t id)
+tied_not self t wanted q id = record { ties = λ i x. rw q; ties_sound = λ i. i; ties_same = same_all (whole self t id) }
 
 pub tied_to :
-    (self : Endpoint) (t t' : List ℕ) (to : OutgoingTie) → Low self t to → (n ch h : ℕ) → to ≡ To n ch h → {m : ℕ} → m ≡ self.local_open.channel_max
-    → Changes (suc m) n (some (tie_of ch h)) t t' → (id : List ℕ) → Ties (whole self t id) to (whole self t' id)
-tied_to self t t' to l n ch h q own c id =
-    let v : Option Tie = some (tie_of ch h) in
-    let low = l.low n ch h q in
-    let through = l.through_low n ch h q id in
+    (self : Endpoint) (t t' : List ℕ) (wanted : Option OutgoingTie) → Low self t wanted → (to : OutgoingTie) → wanted ≡ Some to → {m : ℕ} → m ≡ self.local_open.channel_max
+    → Changes (suc m) to.incoming (Some (tie_of to.outgoing to.handle)) t t' → (id : List ℕ) → Ties (whole self t id) wanted (whole self t' id)
+tied_to self t t' wanted l to q own c id =
+    let v : Option Tie = Some (tie_of to.outgoing to.handle) in
+    let low = l.low to q in
+    let through = l.through_low to q id in
     record {
-      ties = λ i e r x.
-          let z : accept (tie n v) ≡ accept e = sym (ap tie_says q) ∙ r in
-          let y : e ≡ tie n v = cc in
-          retied self t t' id n v own low through c i x ∙ sym (ap (λ d. M.apply (settings_of (whole self t id)) d (view_as x (whole self t id))) y);
-      ties_sound = retied_sound self t t' id n v own low through c;
-      ties_same = retied_same self t t' id n v own low through c;
+      ties = λ i x. retied self t t' id to.incoming v own low through c i x ∙ ap (λ y. M.apply (settings_of (whole self t id)) (tie_says y) (view_as x (whole self t id))) (sym q);
+      ties_sound = retied_sound self t t' id to.incoming v own low through c;
+      ties_same = retied_same self t t' id to.incoming v own low through c;
     }
 
 -- ---- a refusal
 
 sends_not :
-    {rule : Verdict Outcome} (e : Endpoint) (t id : List ℕ) (r : SessionSent) (k : ℕ) (out : List ℕ)
-    → (Sound (whole e t id) → rule ≡ refuse k) → (r.answer ≡ NotWritten k) × (r.endpoint ≡ e) → Send rule (whole e t id) (sent_says r.answer) (whole r.endpoint t id) out out
+    {rule : Verdict Outcome} (e : Endpoint) (t id : List ℕ) (r : SessionSent) (k : Refusal) (out : List ℕ)
+    → (Sound (whole e t id) → rule ≡ refuse (number_of k)) → (r.answer ≡ Err k) × (r.endpoint ≡ e) → Send rule (whole e t id) (sent_says r.answer) (whole r.endpoint t id) out out
 unfolding laid
 sends_not e t id r k out p n = record {
   step = stays p (ap sent_says n.0) (ap (λ x. whole x t id) n.1);
@@ -146,59 +136,39 @@ sends_not e t id r k out p n = record {
 
 -- ---- write_tied
 
-refused_all : (t : Verdict Effect) (v : Verdict (List ℕ)) (k : ℕ) → t ≡ refuse k → ties_and_writes t v ≡ refuse k
-unfolding ties_and_writes
-refused_all t v k e = then_refuse t _ k e
-
-pub writes_24 :
-    (self : Endpoint) (t : List ℕ) (to : OutgoingTie) (v : Verdict (List ℕ)) (r : SessionSent) (out : List ℕ) → to ≡ NotFound → (r.answer ≡ NotWritten 24) × (r.endpoint ≡ self)
-    → (id : List ℕ) → Send (ties_and_writes (tie_says to) v) (whole self t id) (sent_says r.answer) (whole r.endpoint t id) out out
-writes_24 self t to v r out e n id = sends_not self t id r 24 out (λ i. refused_all (tie_says to) v 24 (ap tie_says e)) n
-
--- a tie that was found
-makes : (to : OutgoingTie) → (to ≡ NotFound → ⊥) → (e : Effect) × (tie_says to ≡ accept e)
-makes Stay o = (stay, refl)
-makes (To n ch h) o = (tie n (some (tie_of ch h)), refl)
-makes NotFound o = absurd (o refl)
-
-both : (t : Verdict Effect) (v : Verdict (List ℕ)) (e : Effect) → t ≡ accept e → ties_and_writes t v ≡ and_then v (λ bytes. writes bytes e)
-unfolding ties_and_writes
-both t v e q = then_accept t _ e q
-
 -- what a rule for bytes comes to, by what was answered
-not_counted : (v : Verdict (List ℕ)) (k : ℕ) → O.written (NotWritten k) ≡ counted v → v ≡ refuse k
-unfolding counted O.written
+not_counted : (v : Verdict (List ℕ)) (k : Refusal) → judged (Err k) ≡ counted v → v ≡ refuse (number_of k)
+unfolding counted
 not_counted (refuse j) k e = cc
 not_counted (accept bytes) k e = apart (cc)
 
-is_counted : (v : Verdict (List ℕ)) (n : ℕ) → O.written (Bytes n) ≡ counted v → (bytes : List ℕ) × (v ≡ accept bytes) × (n ≡ length bytes)
-unfolding counted O.written
+is_counted : (v : Verdict (List ℕ)) (n : ℕ) → judged (Ok n) ≡ counted v → (bytes : List ℕ) × (v ≡ accept bytes) × (n ≡ length bytes)
+unfolding counted
 is_counted (refuse j) n e = apart (cc)
 is_counted (accept bytes) n e = (bytes, refl, cc)
 
-module _ (self : Endpoint) (t : List ℕ) (to : OutgoingTie) (found : to ≡ NotFound → ⊥) (v : Verdict (List ℕ)) (a : Written) (out o : List ℕ) (w : Wrote v a out o) where
-  pub writes_not : (k : ℕ) → a ≡ NotWritten k → (id : List ℕ) → Send (ties_and_writes (tie_says to) v) (whole self t id) (sent_says a) (whole self t id) out o
-  unfolding laid
+module _ (self : Endpoint) (t : List ℕ) (to : Option OutgoingTie) (v : Verdict (List ℕ)) (a : Result ℕ Refusal) (out o : List ℕ) (w : Wrote v a out o) where
+  pub writes_not : (k : Refusal) → a ≡ Err k → (id : List ℕ) → Send (writes_with (tie_says to) v) (whole self t id) (sent_says a) (whole self t id) out o
+  unfolding laid writes_with
   writes_not k q id =
-      let m = makes to found in
-      let e : v ≡ refuse k = not_counted v k (sym (ap O.written q) ∙ w.answer) in
+      let e : v ≡ refuse (number_of k) = not_counted v k (sym (ap judged q) ∙ w.answer) in
       let l : o ≡ out = w.output ∙ rw e in
-      let rule : ties_and_writes (tie_says to) v ≡ refuse k = both (tie_says to) v m.0 m.1 ∙ then_refuse v _ k e in
-      let s : Send (ties_and_writes (tie_says to) v) (whole self t id) (sent_says a) (whole self t id) out out = sends_not self t id (record { answer = a; endpoint = self }) k out (λ i. rule) (q, refl) in
-      subst (λ (x : List ℕ). Send (ties_and_writes (tie_says to) v) (whole self t id) (sent_says a) (whole self t id) out x) (sym l) s
+      let rule : writes_with (tie_says to) v ≡ refuse (number_of k) = then_refuse v _ (number_of k) e in
+      let s : Send (writes_with (tie_says to) v) (whole self t id) (sent_says a) (whole self t id) out out = sends_not self t id (record { answer = a; endpoint = self }) k out (λ i. rule) (q, refl) in
+      subst (λ (x : List ℕ). Send (writes_with (tie_says to) v) (whole self t id) (sent_says a) (whole self t id) out x) (sym l) s
 
   pub writes_yes :
-      (n : ℕ) → a ≡ Bytes n → (t' : List ℕ) → ((id : List ℕ) → Ties (whole self t id) to (whole self t' id))
-      → (id : List ℕ) → Send (ties_and_writes (tie_says to) v) (whole self t id) (accept (wrote n)) (whole self t' id) out o
+      (n : ℕ) → a ≡ Ok n → (t' : List ℕ) → ((id : List ℕ) → Ties (whole self t id) to (whole self t' id))
+      → (id : List ℕ) → Send (writes_with (tie_says to) v) (whole self t id) (accept (wrote n)) (whole self t' id) out o
+  unfolding writes_with
   writes_yes n q t' makes-it id =
-      let m = makes to found in
       let made = makes-it id in
-      let b = is_counted v n (sym (ap O.written q) ∙ w.answer) in
-      let rule : ties_and_writes (tie_says to) v ≡ writes b.0 m.0 = both (tie_says to) v m.0 m.1 ∙ then_accept v _ b.0 b.1 in
+      let b = is_counted v n (sym (ap judged q) ∙ w.answer) in
+      let rule : writes_with (tie_says to) v ≡ writes b.0 (tie_says to) = then_accept v _ b.0 b.1 in
       record {
         step = record {
           says = λ i. ap (λ (j : ℕ). accept (wrote j)) b.2 ∙ sym (ap answered rule);
-          leaves = λ i x. made.ties i m.0 m.1 x ∙ sym (ap (λ (y : Verdict Outcome). after (settings_of (whole self t id)) y (view_as x (whole self t id))) rule);
+          leaves = λ i x. made.ties i x ∙ sym (ap (λ (y : Verdict Outcome). after (settings_of (whole self t id)) y (view_as x (whole self t id))) rule);
           sound = made.ties_sound;
           same = made.ties_same;
           refused = λ k z. apart (cc);
@@ -230,24 +200,27 @@ said_not (accept r) k e = apart (cc)
 said_body : (v : Verdict (Frame × Performative)) (x : FrameSaid) → and_then v (λ r. accept (session_said r)) ≡ accept x → (r : Frame × Performative) × (v ≡ accept r) × (session_said r ≡ x)
 said_body v x e = let a = then_was v _ x e in (a.0, a.1, cc)
 
-unread : (highest : ℕ) (s : List ℕ) (f : F.Frame) → frame_says f ≡ session_answer highest s → (k : ℕ) → k ≡ refusal_of f → ((c z b : ℕ) (p : P.Performative) (n : ℕ) → f ≡ Body c z b p n → ⊥) → session_frame highest s ≡ refuse k
+unread : (highest : ℕ) (s : List ℕ) (f : F.Frame) → frame_says (Ok f) ≡ session_answer highest s → ((c z b : ℕ) (p : P.Performative) (n : ℕ) → f ≡ Body c z b p n → ⊥) → {A : Type 0} → A
 unfolding session_answer
-unread highest s (NotRead j) e k q o = said_not (session_frame highest s) k (sym e ∙ ap refuse (sym q))
-unread highest s (Empty c z b) e k q o =
+unread highest s (Empty c z b) e o =
     let a = said_body (session_frame highest s) _ (sym e) in
-    let w : ◌≡◌ {A = Option Said} (some (said a.0.1)) none = ap (λ (x : FrameSaid). x.content) a.2 in
+    let w : ◌≡◌ {A = Option Said} (Some (said a.0.1)) None = ap (λ (x : FrameSaid). x.content) a.2 in
     apart (cc)
-unread highest s (Body c z b p n) e k q o = absurd (o c z b p n refl)
+unread highest s (Body c z b p n) e o = absurd (o c z b p n refl)
+
+refused_as : (highest : ℕ) (s : List ℕ) (f : Result F.Frame Refusal) → frame_says f ≡ session_answer highest s → (k : Refusal) → f ≡ Err k → session_frame highest s ≡ refuse (number_of k)
+unfolding session_answer
+refused_as highest s f e k q = said_not (session_frame highest s) (number_of k) (sym e ∙ ap frame_says q)
 
 within_known : (highest : ℕ) (x : Performative) (b : Bool) → eqb x.code 17 ≡ b → (x.code ≡ 17 → within highest (begins_for true x) ≡ true) → within highest (begins_for b x) ≡ true
 within_known highest x true e h = h (eqb-true x.code 17 e)
 within_known highest x false e h = refl
 
-was_read : (highest : ℕ) (s : List ℕ) (f : F.Frame) → frame_says f ≡ session_answer highest s → (channel size from : ℕ) (p : P.Performative) (end : ℕ) → f ≡ Body channel size from p end → Read highest s channel p
+was_read : (highest : ℕ) (s : List ℕ) (f : Result F.Frame Refusal) → frame_says f ≡ session_answer highest s → (g : F.Frame) → f ≡ Ok g → (channel size from : ℕ) (p : P.Performative) (end : ℕ) → g ≡ Body channel size from p end → Read highest s channel p
 unfolding session_answer
-was_read highest s f e channel size from p end q =
-    let a = said_body (session_frame highest s) (record { size = size; channel = channel; from = from; content = some (ending_at end p) }) (sym e ∙ rw q) in
-    let d : ◌≡◌ {A = Option Said} (some (said a.0.1)) (some (ending_at end p)) = ap (λ (y : FrameSaid). y.content) a.2 in
+was_read highest s f e g is channel size from p end q =
+    let a = said_body (session_frame highest s) (record { size = size; channel = channel; from = from; content = Some (ending_at end p) }) (sym e ∙ ap frame_says (is ∙ ap (λ (x : F.Frame). Ok x) q)) in
+    let d : ◌≡◌ {A = Option Said} (Some (said a.0.1)) (Some (ending_at end p)) = ap (λ (y : FrameSaid). y.content) a.2 in
     let c : said a.0.1 ≡ ending_at end p = cc in
     let n : a.0.1.code ≡ (performative_says p).0 = ap (λ (y : Said). y.code) c in
     let v : values_of a.0.1 ≡ (performative_says p).1 = ap (λ (y : Said). y.values) c in
@@ -264,15 +237,15 @@ was_read highest s f e channel size from p end q =
 
 -- the channel that a frame ties is one of those that its reading allows
 pub send_low :
-    (self : Endpoint) (t s : List ℕ) (highest : ℕ) → highest ≡ self.local_open.channel_max → (f : F.Frame) → frame_says f ≡ session_answer highest s
-    → (channel size from : ℕ) (p : P.Performative) (end : ℕ) → f ≡ Body channel size from p end
-    → (to : OutgoingTie) → ((id : List ℕ) → AsksTie (whole self t id) channel (named p) to) → Low self t to
-send_low self t s highest m f e channel size from p end q to asked = record {
-  low = λ n ch h z.
-      let r = (asked []).only_named n ch h z in
-      let y : within highest (n ∷ r.0) ≡ true = sym (ap (within highest) r.1) ∙ (was_read highest s f e channel size from p end q).known in
-      omega (arith, leb-true n highest ((and-eq-true_iff (leb n highest) (within highest r.0)).0 y).0);
-  through_low = λ n ch h z id i. (asked id).of_channels n ch h z i;
+    (self : Endpoint) (t s : List ℕ) (highest : ℕ) → highest ≡ self.local_open.channel_max → (f : Result F.Frame Refusal) → frame_says f ≡ session_answer highest s
+    → (g : F.Frame) → f ≡ Ok g → (channel size from : ℕ) (p : P.Performative) (end : ℕ) → g ≡ Body channel size from p end
+    → {found : Result (Option OutgoingTie) Refusal} → ((id : List ℕ) → AsksTie (whole self t id) channel (named p) found) → (wanted : Option OutgoingTie) → found ≡ Ok wanted → Low self t wanted
+send_low self t s highest m f e g is-ok channel size from p end q asked wanted is = record {
+  low = λ to z.
+      let r = (asked []).only_named to (is ∙ ap (λ (y : Option OutgoingTie). Ok y) z) in
+      let y : within highest (to.incoming ∷ r.0) ≡ true = sym (ap (within highest) r.1) ∙ (was_read highest s f e g is-ok channel size from p end q).known in
+      omega (arith, leb-true to.incoming highest ((and-eq-true_iff (leb to.incoming highest) (within highest r.0)).0 y).0);
+  through_low = λ to z id i. (asked id).of_channels to (is ∙ ap (λ (y : Option OutgoingTie). Ok y) z) i;
 }
 
 -- an equal rule, where the tables are sound
@@ -296,11 +269,11 @@ module _ (self : Endpoint) (t : List ℕ) (x : State) (s out : List ℕ) where
   rule id = decide (role_of (whole self t id)) (settings_of (whole self t id)) (view_as x (whole self t id)) (send_session_frame s out)
 
   pub send_small :
-      (r : SessionSent) → length out < 16384 → (r.answer ≡ NotWritten 9) × (r.endpoint ≡ self)
+      (r : SessionSent) → length out < 16384 → (r.answer ≡ Err NoRoom) × (r.endpoint ≡ self)
       → (id : List ℕ) → Send (rule id) (whole self t id) (sent_says r.answer) (whole r.endpoint t id) out out
-  send_small r h n id = sends_not self t id r 9 out (λ i. require_off 9 _ _ (room_no 0 out (omega arith))) n
+  send_small r h n id = sends_not self t id r NoRoom out (λ i. require_off 9 _ _ (room_no 0 out (omega arith))) n
 
-  module _ (room : 16384 ≤ length out) (highest : ℕ) (m : highest ≡ self.local_open.channel_max) (f : F.Frame) (e : frame_says f ≡ session_answer highest s) where
+  module _ (room : 16384 ≤ length out) (highest : ℕ) (m : highest ≡ self.local_open.channel_max) (f : Result F.Frame Refusal) (e : frame_says f ≡ session_answer highest s) where
     roomy : room_for 0 out ≡ true
     roomy = room_yes 0 out (omega arith)
 
@@ -308,37 +281,55 @@ module _ (self : Endpoint) (t : List ℕ) (x : State) (s out : List ℕ) where
     frame_first id = require_on 9 _ _ roomy ∙ rw m
 
     pub send_unread :
-        (r : SessionSent) (k : ℕ) → k ≡ refusal_of f → ((c z b : ℕ) (p : P.Performative) (n : ℕ) → f ≡ Body c z b p n → ⊥) → (r.answer ≡ NotWritten k) × (r.endpoint ≡ self)
+        (r : SessionSent) (k : Refusal) → f ≡ Err k → (r.answer ≡ Err k) × (r.endpoint ≡ self)
         → (id : List ℕ) → Send (rule id) (whole self t id) (sent_says r.answer) (whole r.endpoint t id) out out
-    send_unread r k q o n id = sends_not self t id r k out (λ i. frame_first id ∙ then_refuse (session_frame highest s) _ k (unread highest s f e k q o)) n
+    send_unread r k q n id = sends_not self t id r k out (λ i. frame_first id ∙ then_refuse (session_frame highest s) _ (number_of k) (refused_as highest s f e k q)) n
 
-    module _ (channel size from : ℕ) (p : P.Performative) (end : ℕ) (q : f ≡ Body channel size from p end) (sends : Bool) (g : sends ≡ is_one_of sending x) where
-      state_next : (id : List ℕ) → rule id ≡ session_sent (role_of (whole self t id)) (view_as x (whole self t id)) s (was_read highest s f e channel size from p end q).read
+    pub send_bare :
+        (r : SessionSent) (g : F.Frame) → f ≡ Ok g → ((c z b : ℕ) (p : P.Performative) (n : ℕ) → g ≡ Body c z b p n → ⊥)
+        → (id : List ℕ) → Send (rule id) (whole self t id) (sent_says r.answer) (whole r.endpoint t id) out out
+    send_bare r g q o = unread highest s g (sym (ap frame_says q) ∙ e) o
+
+    module _ (g : F.Frame) (is-ok : f ≡ Ok g) (channel size from : ℕ) (p : P.Performative) (end : ℕ) (q : g ≡ Body channel size from p end) (sends : Bool) (legal : sends ≡ is_one_of sending x) where
+      state_next : (id : List ℕ) → rule id ≡ session_sent (role_of (whole self t id)) (view_as x (whole self t id)) s (was_read highest s f e g is-ok channel size from p end q).read
       state_next id =
-          let y = was_read highest s f e channel size from p end q in
+          let y = was_read highest s f e g is-ok channel size from p end q in
           frame_first id ∙ then_accept (session_frame highest s) _ y.read y.is
 
       pub send_20 :
-          (r : SessionSent) → sends ≡ false → (r.answer ≡ NotWritten 20) × (r.endpoint ≡ self)
+          (r : SessionSent) → sends ≡ false → (r.answer ≡ Err IllegalState) × (r.endpoint ≡ self)
           → (id : List ℕ) → Send (rule id) (whole self t id) (sent_says r.answer) (whole r.endpoint t id) out out
-      send_20 r b n id = sends_not self t id r 20 out (λ i. state_next id ∙ require_off 20 _ _ (sym g ∙ b)) n
+      send_20 r b n id = sends_not self t id r IllegalState out (λ i. state_next id ∙ require_off 20 _ _ (sym legal ∙ b)) n
 
-      module _ (b : sends ≡ true) (to : OutgoingTie) (asked : (id : List ℕ) → AsksTie (whole self t id) channel (named p) to) where
-        written_last : (id : List ℕ) → Sound (whole self t id) → rule id ≡ ties_and_writes (tie_says to) (write_session highest s self.writing_limit out)
-        unfolding ties_and_writes write_session
-        written_last id i =
-            let r = was_read highest s f e channel size from p end q in
-            let bytes : write_session highest s self.writing_limit out ≡ limited self.writing_limit (session_bytes s r.read) =
-            require_on 9 _ _ roomy ∙ then_accept (session_frame highest s) _ r.read r.is in
-            let same : tied_by (role_of (whole self t id)) (begins_for (eqb r.read.1.code 17) r.read.1) r.read.0.channel (taken_of (whole self t id) r.read.0.channel) ≡ tie_says to =
+      module _ (b : sends ≡ true) {found : Result (Option OutgoingTie) Refusal} (asked : (id : List ℕ) → AsksTie (whole self t id) channel (named p) found) where
+        asked_next : (id : List ℕ) → Sound (whole self t id) → rule id ≡ and_then (tied_says found) (λ x. writes_with x (limited self.writing_limit (session_bytes s (was_read highest s f e g is-ok channel size from p end q).read)))
+        unfolding writes_with
+        asked_next id i =
+            let r = was_read highest s f e g is-ok channel size from p end q in
+            let same : tied_by (role_of (whole self t id)) (begins_for (eqb r.read.1.code 17) r.read.1) r.read.0.channel (taken_of (whole self t id) r.read.0.channel) ≡ tied_says found =
             rw (r.names, r.on) (sym ((asked id).asks i)) in
             state_next id
-            ∙ require_on 20 _ _ (sym g ∙ b)
+            ∙ require_on 20 _ _ (sym legal ∙ b)
             ∙ ap (λ (y : Verdict Effect). and_then y (λ e. and_then (limited self.writing_limit (session_bytes s r.read)) (λ bytes. writes bytes e))) same
-            ∙ ap (λ (y : Verdict (List ℕ)). and_then (tie_says to) (λ e. and_then y (λ bytes. writes bytes e))) (sym bytes)
 
-        pub send_on :
-            (a : Verdict Answer) (later : Endpoint) (t' o : List ℕ)
-            → ((id : List ℕ) → Send (ties_and_writes (tie_says to) (write_session highest s self.writing_limit out)) (whole self t id) a (whole later t' id) out o)
-            → (id : List ℕ) → Send (rule id) (whole self t id) a (whole later t' id) out o
-        send_on a later t' o w id = sends_as (written_last id) (w id)
+        pub send_untied :
+            (r : SessionSent) (k : Refusal) → found ≡ Err k → (r.answer ≡ Err k) × (r.endpoint ≡ self)
+            → (id : List ℕ) → Send (rule id) (whole self t id) (sent_says r.answer) (whole r.endpoint t id) out out
+        send_untied r k z n id = sends_not self t id r k out (λ i. asked_next id i ∙ then_refuse (tied_says found) _ (number_of k) (ap tied_says z)) n
+
+        module _ (to : Option OutgoingTie) (is : found ≡ Ok to) where
+          written_last : (id : List ℕ) → Sound (whole self t id) → rule id ≡ writes_with (tie_says to) (write_session highest s self.writing_limit out)
+          unfolding write_session
+          written_last id i =
+              let r = was_read highest s f e g is-ok channel size from p end q in
+              let bytes : write_session highest s self.writing_limit out ≡ limited self.writing_limit (session_bytes s r.read) =
+              require_on 9 _ _ roomy ∙ then_accept (session_frame highest s) _ r.read r.is in
+              asked_next id i
+              ∙ then_accept (tied_says found) _ (tie_says to) (ap tied_says is)
+              ∙ ap (writes_with (tie_says to)) (sym bytes)
+
+          pub send_on :
+              (a : Verdict Answer) (later : Endpoint) (t' o : List ℕ)
+              → ((id : List ℕ) → Send (writes_with (tie_says to) (write_session highest s self.writing_limit out)) (whole self t id) a (whole later t' id) out o)
+              → (id : List ℕ) → Send (rule id) (whole self t id) a (whole later t' id) out o
+          send_on a later t' o w id = sends_as (written_last id) (w id)

@@ -1,23 +1,16 @@
 -- What the values of an endpoint stand for in the definition of a connection.
 -- Assumes nothing: these are definitions.
-use Rattle.std.specs.Prelude.{List, ℕ, suc}
-use Rattle.std.proofs.Math.Option.{Option, some}
+use Rattle.std.specs.Prelude.{List, ℕ, suc, Option, None, Some, Result, Ok, Err}
 use Rattle.octets.specs.Verdict.{Verdict, refuse, accept}
-use Rattle.octets.specs.declared.Written.{Written}
-use Rattle.octets.specs.declared.Written.TheVariants.{Bytes, Refused as NotWritten}
+use Rattle.octets.specs.Refusal.{number_of}
+use Rattle.octets.specs.declared.Refusal.{Refusal}
 use Rattle.frame_decoder.specs.Frame.{Frame}
-use Rattle.frame_decoder.specs.declared.Frame as F
-use Rattle.frame_decoder.specs.declared.Frame.TheVariants.{Refused as NotRead, Empty, Body}
 use Rattle.frame_encoder.specs.Frames.{Settings}
 use Rattle.connection_state.specs.States.{State}
 use Rattle.connection_model.specs.Connection as M
 use Rattle.connection_model.specs.Connection.{Answer, connection, wrote, nothing_to_do, opened, closed, forward, began, channel, freed}
 use Rattle.channels.specs.Numbers.{Map}
 use Rattle.channels.specs.Ties.{tie_of, Ties}
-use Rattle.channels.specs.declared.Held.{Held}
-use Rattle.channels.specs.declared.Held.TheVariants.{Handle, Nothing}
-use Rattle.channels.specs.declared.Allocated.{Allocated}
-use Rattle.channels.specs.declared.Allocated.TheVariants.{Channel, NotOpened, Full}
 use Rattle.channels.specs.Channels.{agreed_says, hand_out_says, taken_says}
 use Rattle.channels.specs.Lists.{ties_says}
 use Rattle.local_open.specs.Settings.{open_says}
@@ -26,9 +19,8 @@ use Rattle.endpoint.specs.declared.Role.TheVariants.{Dialler, Listener}
 use Rattle.endpoint.specs.declared.Endpoint.{Endpoint}
 use Rattle.endpoint.specs.declared.Incoming.{Incoming}
 use Rattle.endpoint.specs.declared.FrameAnswer.{FrameAnswer}
-use Rattle.endpoint.specs.declared.FrameAnswer.TheVariants.{NothingToDo, Opened, Closed, Forward, Began, Refused}
+use Rattle.endpoint.specs.declared.FrameAnswer.TheVariants.{NothingToDo, Opened, Closed, Forward, Began}
 use Rattle.endpoint.specs.declared.OutgoingTie.{OutgoingTie}
-use Rattle.endpoint.specs.declared.OutgoingTie.TheVariants.{Stay, To, NotFound}
 
 -- ---- an endpoint, with what it is lent: its tables, and the container-id of its settings
 
@@ -72,35 +64,34 @@ frame_of i = record { size = i.size; channel = i.channel; from = i.from }
 
 -- ---- answers
 
-abbrev pub answer_says : FrameAnswer → Verdict Answer
-answer_says (NothingToDo n) = accept (nothing_to_do n)
-answer_says (Opened n idle) = accept (opened n idle)
-answer_says (Closed n error) = accept (closed n error)
-answer_says (Forward n code h from len) = accept (forward n code h from len)
-answer_says (Began n ch h from len) = accept (began n ch h from len)
-answer_says (Refused k) = refuse k
+abbrev pub came_says : FrameAnswer → Answer
+came_says (NothingToDo n) = nothing_to_do n
+came_says (Opened n idle) = opened n idle
+came_says (Closed n error) = closed n error
+came_says (Forward n code h from len) = forward n code h from len
+came_says (Began n ch h from len) = began n ch h from len
 
-abbrev pub sent_says : Written → Verdict Answer
-sent_says (Bytes n) = accept (wrote n)
-sent_says (NotWritten k) = refuse k
+abbrev pub answer_says : Result FrameAnswer Refusal → Verdict Answer
+answer_says (Ok a) = accept (came_says a)
+answer_says (Err e) = refuse (number_of e)
 
-abbrev pub allocate_says : Allocated → Verdict Answer
-allocate_says (Channel k) = accept (channel k)
-allocate_says NotOpened = refuse 21
-allocate_says Full = refuse 23
+abbrev pub sent_says : Result ℕ Refusal → Verdict Answer
+sent_says (Ok n) = accept (wrote n)
+sent_says (Err e) = refuse (number_of e)
 
-abbrev pub deallocate_says : Held → Verdict Answer
-deallocate_says (Handle h) = accept (freed h)
-deallocate_says Nothing = refuse 26
+abbrev pub allocate_says : Result ℕ Refusal → Verdict Answer
+allocate_says (Ok ch) = accept (channel ch)
+allocate_says (Err e) = refuse (number_of e)
+
+abbrev pub deallocate_says : Option ℕ → Verdict Answer
+deallocate_says (Some h) = accept (freed h)
+deallocate_says None = refuse 26
 
 -- what a frame that goes out does to the ties
-abbrev pub tie_says : OutgoingTie → Verdict M.Effect
-tie_says Stay = accept M.stay
-tie_says (To n ch h) = accept (M.tie n (some (tie_of ch h)))
-tie_says NotFound = refuse 24
+abbrev pub tie_says : Option OutgoingTie → M.Effect
+tie_says None = M.stay
+tie_says (Some t) = M.tie t.incoming (Some (tie_of t.outgoing t.handle))
 
--- the refusal of a frame that is to be sent; one without a performative is refused with 6
-abbrev pub refusal_of : F.Frame → ℕ
-refusal_of (NotRead k) = k
-refusal_of (Empty ch size from) = 6
-refusal_of (Body ch size from p end) = 6
+abbrev pub tied_says : Result (Option OutgoingTie) Refusal → Verdict M.Effect
+tied_says (Ok t) = accept (tie_says t)
+tied_says (Err e) = refuse (number_of e)

@@ -1,7 +1,6 @@
 -- What the calls of an endpoint promise.
 -- Assumes nothing: these are definitions.
-use Rattle.std.specs.Prelude.{◌≡◌, Bool, true, cond, not, ◌&&◌, List, [], ℕ, suc, min, ◌≤◌, leb, eqb, length}
-use Rattle.std.proofs.Math.Option.{Option, none, some}
+use Rattle.std.specs.Prelude.{◌≡◌, Bool, true, cond, not, ◌&&◌, List, [], ℕ, suc, min, ◌≤◌, leb, eqb, length, Option, None, Some}
 use Rattle.octets.specs.Verdict.{Verdict, refuse}
 use Rattle.octets.specs.Output.{laid}
 use Rattle.frame_encoder.specs.Frames.{Settings}
@@ -16,8 +15,6 @@ use Rattle.local_open.specs.declared.LocalOpen.{LocalOpen}
 use Rattle.local_open.specs.Settings.{open_says}
 use Rattle.endpoint.specs.declared.Role.{Role}
 use Rattle.endpoint.specs.declared.Endpoint.{Endpoint}
-use Rattle.endpoint.specs.declared.ResumedEndpoint.{ResumedEndpoint}
-use Rattle.endpoint.specs.declared.ResumedEndpoint.TheVariants.{Is, Broken}
 use Rattle.endpoint.specs.Answers.{Whole, whole, role_of, settings_of, places_of, view_as}
 
 -- ---- what holds of an endpoint and its tables while nobody else writes these
@@ -76,9 +73,9 @@ agreed_with size most e =
 
 -- whether calls can lead to these limits and this agreed channel-max in a state: without the peer's Open all is as at first
 unfoldable pub limits_ok : Settings → State → ℕ → ℕ → Option ℕ → Bool
-limits_ok S x reading writing none = not (is_one_of after_open x) && (eqb reading 512 && eqb writing 512)
-limits_ok S x reading writing (some m) =
+limits_ok S x reading writing None = not (is_one_of after_open x) && (eqb reading 512 && eqb writing 512)
+limits_ok S x reading writing (Some m) =
     not (is_one_of before_open x) && (leb m S.channel_max && (eqb reading S.max_frame_size && (leb 512 writing && leb writing 16384)))
 
-abbrev pub resumed_as : State → Endpoint → ResumedEndpoint
-resumed_as x e = cond (limits_ok (open_says [] e.local_open) x e.reading_limit e.writing_limit (agreed_says e.outgoing)) (Is e) Broken
+abbrev pub resumed_as : State → Endpoint → Option Endpoint
+resumed_as x e = cond (limits_ok (open_says [] e.local_open) x e.reading_limit e.writing_limit (agreed_says e.outgoing)) (Some e) None

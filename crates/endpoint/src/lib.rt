@@ -9,7 +9,7 @@ ghost use Rattle.std.specs.Prelude.{◌≡◌, List, ℕ, suc, min};
 ghost use Rattle.connection_state.specs.Answers.{state_says};
 ghost use Rattle.connection_model.specs.Connection.{clamped, given, released};
 ghost use Rattle.channels.specs.Places.{covers};
-ghost use Rattle.channels.specs.Channels.{agreed_max_says, agreed_says, held_says};
+ghost use Rattle.channels.specs.Channels.{agreed_says, MayAllocate};
 ghost use Rattle.channels.specs.Ties.{handle_of};
 ghost use Rattle.channels.specs.Lists.{Clears};
 ghost use Rattle.channels.specs.Numbers.{taken_below};
@@ -17,10 +17,10 @@ ghost use Rattle.local_open.specs.Settings.{open_says};
 ghost use Rattle.endpoint.specs.Answers.{whole, places_of, hand_out_of, taken_of, ties_of, allocate_says, deallocate_says};
 ghost use Rattle.endpoint.specs.Promises.{Sound, Steps, new_endpoint, agreed_with, endpoint_of, limits_ok, resumed_as};
 
-use channels::{AgreedMax, Allocated, Held, OutgoingChannels, places, ties};
+use channels::{OutgoingChannels, places, ties};
 use connection_state::ConnectionState;
 use local_open::LocalOpen;
-use octets::Written;
+use octets::Refusal;
 
 // Who opened the transport: a dialler starts sessions only of its own, a listener also takes those that its peer starts.
 #[derive(Clone, Copy)]
@@ -38,13 +38,6 @@ pub struct Endpoint {
     outgoing: OutgoingChannels,
 }
 
-// An endpoint that was kept, or that calls cannot lead to it.
-#[derive(Clone, Copy)]
-pub enum ResumedEndpoint {
-    Is(Endpoint),
-    Broken,
-}
-
 // A frame that came and has a performative: its channel, its length, and where its body starts.
 #[derive(Clone, Copy)]
 pub struct Incoming {
@@ -53,7 +46,7 @@ pub struct Incoming {
     pub from: usize,
 }
 
-// What comes of a frame. Each but the refusal has the number of bytes that were consumed.
+// What comes of a frame that is taken, each with the number of bytes that were consumed.
 // A body that goes on to a session has the session's handle, its own place and its length.
 #[derive(Clone, Copy)]
 pub enum FrameAnswer {
@@ -82,43 +75,38 @@ pub enum FrameAnswer {
         from: usize,
         len: usize,
     },
-    Refused(u8),
 }
 
 #[derive(Clone, Copy)]
 pub struct Routed {
-    pub answer: FrameAnswer,
+    pub answer: Result<FrameAnswer, Refusal>,
     pub endpoint: Endpoint,
 }
 
 #[derive(Clone, Copy)]
 pub struct SessionSent {
-    pub answer: Written,
+    pub answer: Result<usize, Refusal>,
     pub endpoint: Endpoint,
 }
 
 #[derive(Clone, Copy)]
 pub struct SessionAllocated {
-    pub answer: Allocated,
+    pub answer: Result<u16, Refusal>,
     pub endpoint: Endpoint,
 }
 
 #[derive(Clone, Copy)]
 pub struct SessionDeallocated {
-    pub answer: Held,
+    pub answer: Option<u32>,
     pub endpoint: Endpoint,
 }
 
-// What a session's frame that goes out does to the ties.
+// The tie that a session's frame that goes out asks for.
 #[derive(Clone, Copy)]
-pub(crate) enum OutgoingTie {
-    Stay,
-    To {
-        incoming: u16,
-        outgoing: u16,
-        handle: u32,
-    },
-    NotFound,
+pub(crate) struct OutgoingTie {
+    incoming: u16,
+    outgoing: u16,
+    handle: u32,
 }
 
 // The least and the most that a limit of frames may be.
@@ -164,7 +152,7 @@ impl Endpoint {
         }
     }
 
-    // An endpoint that was kept, in a connection in this state.
+    // An endpoint that was kept, if calls can lead to it in a connection in this state.
     pub fn resumed(
         role: Role,
         local_open: LocalOpen,
@@ -172,7 +160,7 @@ impl Endpoint {
         writing_limit: u32,
         outgoing: OutgoingChannels,
         state: ConnectionState,
-    ) -> ResumedEndpoint
+    ) -> Option<Endpoint>
         ensures { result ≡ resumed_as (state_says state) (endpoint_of role local_open reading_limit writing_limit outgoing) }
     {
         let endpoint = Endpoint {
@@ -182,10 +170,7 @@ impl Endpoint {
             writing_limit,
             outgoing,
         };
-        if endpoint.is_reached(state) {
-            return ResumedEndpoint::Is(endpoint);
-        }
-        ResumedEndpoint::Broken
+        endpoint.is_reached(state).then_some(endpoint)
     }
 
     // Whether calls can lead to the limits and the agreed channel-max in a connection in this state.
@@ -193,7 +178,7 @@ impl Endpoint {
         ensures { (id : List ℕ) → result ≡ limits_ok (open_says id self.local_open) (state_says state) self.reading_limit self.writing_limit (agreed_says self.outgoing) }
     {
         match self.agreed_max() {
-            AgreedMax::Absent => {
+            None => {
                 if state.is_after_open() {
                     return false;
                 }
@@ -202,7 +187,7 @@ impl Endpoint {
                 }
                 self.writing_limit == MIN_MAX_FRAME_SIZE
             }
-            AgreedMax::Is(agreed) => {
+            Some(agreed) => {
                 if state.is_before_open() {
                     return false;
                 }
@@ -267,24 +252,24 @@ impl Endpoint {
         places::covers(tables, self.channel_max())
     }
 
-    pub fn agreed_max(self) -> AgreedMax
-        ensures { agreed_max_says result ≡ agreed_says self.outgoing }
+    pub fn agreed_max(self) -> Option<u16>
+        ensures { result ≡ agreed_says self.outgoing }
     {
         let outgoing = self.outgoing;
         outgoing.agreed_max()
     }
 
     // The handle of the session on an outgoing channel
-    pub fn handle_at(self, tables: &[u8], channel: u16) -> Held
-        ensures { (id : List ℕ) → Sound (whole self tables.now id) → held_says result ≡ taken_of (whole self tables.now id) channel }
+    pub fn handle_at(self, tables: &[u8], channel: u16) -> Option<u32>
+        ensures { (id : List ℕ) → Sound (whole self tables.now id) → result ≡ taken_of (whole self tables.now id) channel }
     {
         let outgoing = self.outgoing;
         outgoing.handle_at(tables, channel)
     }
 
     // The handle that an incoming channel is tied to
-    pub fn tied_handle(self, tables: &[u8], channel: u16) -> Held
-        ensures { (id : List ℕ) → Sound (whole self tables.now id) → held_says result ≡ handle_of (ties_of (whole self tables.now id) channel) }
+    pub fn tied_handle(self, tables: &[u8], channel: u16) -> Option<u32>
+        ensures { (id : List ℕ) → Sound (whole self tables.now id) → result ≡ handle_of (ties_of (whole self tables.now id) channel) }
     {
         ties::get(tables, self.channel_max(), channel)
     }
@@ -310,7 +295,8 @@ impl Endpoint {
     }
 
     pub fn allocate(mut self, tables: &mut [u8], handle: u32) -> SessionAllocated
-        ensures { Steps (λ w. given handle (hand_out_of w)) self tables.old (allocate_says result.answer) result.endpoint tables.new }
+        ensures steps { Steps (λ w. given handle (hand_out_of w)) self tables.old (allocate_says result.answer) result.endpoint tables.new }
+        ensures may { MayAllocate result.answer }
     {
         let outgoing = self.outgoing;
         let a = outgoing.allocate(tables, handle);
@@ -330,9 +316,9 @@ impl Endpoint {
         let outgoing = self.outgoing;
         let d = outgoing.deallocate(tables, channel);
         let answer = d.answer;
-        let Held::Handle(handle) = answer else {
+        let Some(handle) = answer else {
             return SessionDeallocated {
-                answer: Held::Nothing,
+                answer: None,
                 endpoint: self,
             };
         };
@@ -340,7 +326,7 @@ impl Endpoint {
         self.outgoing = channels;
         ties::drop_through(tables, self.channel_max(), channel);
         SessionDeallocated {
-            answer: Held::Handle(handle),
+            answer: Some(handle),
             endpoint: self,
         }
     }

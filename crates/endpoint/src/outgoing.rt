@@ -1,48 +1,26 @@
 // A session's frame that goes out.
-ghost use Rattle.std.specs.Prelude.{◌≡◌, cond, List, [], ℕ, eqb};
-ghost use Rattle.octets.specs.declared.Written.TheVariants.{Refused as NotWritten};
+ghost use Rattle.std.specs.Prelude.{◌≡◌, cond, List, [], ℕ, eqb, Err};
 ghost use Rattle.performatives.specs.Answers.{performative_says};
 ghost use Rattle.session_frame.specs.Session.{write_session};
 ghost use Rattle.connection_state.specs.Answers.{state_says};
 ghost use Rattle.connection_model.specs.Connection.{decide, send_session_frame};
-ghost use Rattle.endpoint.specs.Answers.{whole, role_of, settings_of, view_as, sent_says, tie_says, refusal_of};
+ghost use Rattle.endpoint.specs.Answers.{whole, role_of, settings_of, view_as, sent_says, tie_says};
 ghost use Rattle.endpoint.specs.Promises.{Sends};
-ghost use Rattle.endpoint.specs.Outgoing.{Low, AsksTie, Ties, ties_and_writes};
+ghost use Rattle.endpoint.specs.Outgoing.{Low, AsksTie, Ties, writes_with};
 
 use crate::{Endpoint, OutgoingTie, Role, SessionSent};
-use channels::{Held, ties};
+use channels::ties;
 use connection_state::ConnectionState;
 use frame_decoder::Frame;
-use octets::Written;
-use performatives::{Performative, RemoteChannel};
-
-// The refusal of a frame that is to be sent; an empty one is refused too.
-fn refusal(frame: Frame) -> u8
-    ensures { result ≡ refusal_of frame }
-{
-    match frame {
-        Frame::Refused(k) => k,
-        Frame::Empty {
-            channel: _,
-            size: _,
-            from: _,
-        } => 6,
-        Frame::Body {
-            channel: _,
-            size: _,
-            from: _,
-            performative: _,
-            end: _,
-        } => 6,
-    }
-}
+use octets::Refusal;
+use performatives::Performative;
 
 impl Endpoint {
-    fn not_sent(self, k: u8) -> SessionSent
-        ensures { (result.answer ≡ NotWritten k) × (result.endpoint ≡ self) }
+    fn not_sent(self, refusal: Refusal) -> SessionSent
+        ensures { (result.answer ≡ Err refusal) × (result.endpoint ≡ self) }
     {
         SessionSent {
-            answer: Written::Refused(k),
+            answer: Err(refusal),
             endpoint: self,
         }
     }
@@ -58,10 +36,13 @@ impl Endpoint {
         ensures { Sends (λ w. decide (role_of w) (settings_of w) (view_as (state_says state) w) (send_session_frame frame.now out.old)) self tables.old (sent_says result.answer) result.endpoint tables.new out.old out.new }
     {
         if out.len() < 16384 {
-            return self.not_sent(9);
+            return self.not_sent(Refusal::NoRoom);
         }
         let highest = self.channel_max();
-        let read = frame_decoder::session_frame(frame, highest);
+        let read = match frame_decoder::session_frame(frame, highest) {
+            Err(refusal) => return self.not_sent(refusal),
+            Ok(read) => read,
+        };
         let Frame::Body {
             channel,
             size: _,
@@ -70,56 +51,60 @@ impl Endpoint {
             end: _,
         } = read
         else {
-            return self.not_sent(refusal(read));
+            return self.not_sent(Refusal::BodyMalformed);
         };
         if !state.sends_session_frames() {
-            return self.not_sent(20);
+            return self.not_sent(Refusal::IllegalState);
         }
-        let tie = self.outgoing_tie(tables, channel, performative);
-        self.write_tied(tables, tie, highest, frame, out)
+        match self.outgoing_tie(tables, channel, performative) {
+            Err(refusal) => self.not_sent(refusal),
+            Ok(tie) => self.write_tied(tables, tie, highest, frame, out),
+        }
     }
 
     // A listener's Begin that names a remote-channel ties it through the sender's channel to the handle there.
-    fn outgoing_tie(self, tables: &[u8], channel: u16, performative: Performative) -> OutgoingTie
+    fn outgoing_tie(
+        self,
+        tables: &[u8],
+        channel: u16,
+        performative: Performative,
+    ) -> Result<Option<OutgoingTie>, Refusal>
         ensures { (id : List ℕ) → AsksTie (whole self tables.now id) channel (cond (eqb (performative_says performative).0 17) (performative_says performative).1 []) result }
     {
         let role = self.role;
         if let Role::Dialler = role {
-            return OutgoingTie::Stay;
+            return Ok(None);
         }
         let Performative::Begin(remote) = performative else {
-            return OutgoingTie::Stay;
+            return Ok(None);
         };
-        let RemoteChannel::Is(r) = remote else {
-            return OutgoingTie::Stay;
+        let Some(r) = remote else {
+            return Ok(None);
         };
-        let Held::Handle(handle) = self.handle_at(tables, channel) else {
-            return OutgoingTie::NotFound;
+        let Some(handle) = self.handle_at(tables, channel) else {
+            return Err(Refusal::NotFound);
         };
-        OutgoingTie::To {
+        Ok(Some(OutgoingTie {
             incoming: r,
             outgoing: channel,
             handle,
-        }
+        }))
     }
 
     // Writes the frame, and ties once it is written.
     fn write_tied(
         self,
         tables: &mut [u8],
-        tie: OutgoingTie,
+        tie: Option<OutgoingTie>,
         highest: u16,
         frame: &[u8],
         out: &mut [u8],
     ) -> SessionSent
         requires { Low self tables.old tie }
-        ensures { Sends (λ w. ties_and_writes (tie_says tie) (write_session highest frame.now self.writing_limit out.old)) self tables.old (sent_says result.answer) result.endpoint tables.new out.old out.new }
+        ensures { Sends (λ w. writes_with (tie_says tie) (write_session highest frame.now self.writing_limit out.old)) self tables.old (sent_says result.answer) result.endpoint tables.new out.old out.new }
     {
-        if let OutgoingTie::NotFound = tie {
-            return self.not_sent(24);
-        }
         let answer = session_frame::write(frame, highest, self.writing_limit, out);
-        let Written::Bytes(n) = answer else {
+        let Ok(n) = answer else {
             return SessionSent {
                 answer,
                 endpoint: self,
@@ -127,24 +112,25 @@ impl Endpoint {
         };
         self.make_tie(tables, tie);
         SessionSent {
-            answer: Written::Bytes(n),
+            answer: Ok(n),
             endpoint: self,
         }
     }
 
     // Makes the tie in the tables.
-    fn make_tie(self, tables: &mut [u8], tie: OutgoingTie)
+    fn make_tie(self, tables: &mut [u8], tie: Option<OutgoingTie>)
         requires { Low self tables.old tie }
         ensures { (id : List ℕ) → Ties (whole self tables.old id) tie (whole self tables.new id) }
     {
-        let OutgoingTie::To {
-            incoming,
-            outgoing,
-            handle,
-        } = tie
-        else {
+        let Some(tie) = tie else {
             return;
         };
-        ties::tie(tables, self.channel_max(), incoming, outgoing, handle);
+        ties::tie(
+            tables,
+            self.channel_max(),
+            tie.incoming,
+            tie.outgoing,
+            tie.handle,
+        );
     }
 }

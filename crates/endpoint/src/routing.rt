@@ -1,22 +1,22 @@
 // A session's frame that came, and the session that it goes to.
-ghost use Rattle.std.specs.Prelude.{◌≡◌, ◌-◌, ◌<◌, leb};
-ghost use Rattle.octets.specs.Verdict.{accept, require};
+ghost use Rattle.std.specs.Prelude.{◌≡◌, ◌-◌, ◌<◌, leb, Err};
+ghost use Rattle.octets.specs.Verdict.{require};
 ghost use Rattle.performatives.specs.Answers.{performative_says, channel_says};
 ghost use Rattle.connection_state.specs.States.{Opened};
 ghost use Rattle.connection_state.specs.Answers.{state_says};
 ghost use Rattle.connection_model.specs.Connection.{forwarded, session_read, begun, new_session, untie, pass_on};
-ghost use Rattle.endpoint.specs.declared.FrameAnswer.TheVariants.{Refused};
-ghost use Rattle.endpoint.specs.Answers.{places_of, role_of, settings_of, hand_out_of, ties_of, view_as, frame_of, answer_says};
+ghost use Rattle.endpoint.specs.Answers.{places_of, role_of, settings_of, hand_out_of, ties_of, view_as, frame_of, came_says, answer_says};
 ghost use Rattle.endpoint.specs.Promises.{Steps};
 
 use crate::{Endpoint, FrameAnswer, Incoming, Role, Routed};
-use channels::{Allocated, Held, ties};
+use channels::ties;
 use connection_state::ConnectionState;
-use performatives::{Performative, RemoteChannel};
+use octets::Refusal;
+use performatives::Performative;
 
 // A body that goes on to a session.
 fn forward(frame: Incoming, code: u8, handle: u32) -> FrameAnswer
-    ensures { answer_says result ≡ accept (forwarded (frame_of frame) code handle) }
+    ensures { came_says result ≡ forwarded (frame_of frame) code handle }
 {
     FrameAnswer::Forward {
         consumed: frame.size,
@@ -37,16 +37,16 @@ fn body_len(frame: Incoming) -> usize
 }
 
 impl Endpoint {
-    fn refused(self, k: u8) -> Routed
-        ensures { (result.answer ≡ Refused k) × (result.endpoint ≡ self) }
+    fn refused(self, refusal: Refusal) -> Routed
+        ensures { (result.answer ≡ Err refusal) × (result.endpoint ≡ self) }
     {
         Routed {
-            answer: FrameAnswer::Refused(k),
+            answer: Err(refusal),
             endpoint: self,
         }
     }
 
-    // A session's frame that came: its body goes on to the handle that its channel is tied to. A channel above the channel-max that the peer was told is refused (7).
+    // A session's frame that came: its body goes on to the handle that its channel is tied to. A channel above the channel-max that the peer was told is `ChannelTooHigh`.
     pub fn receive(
         self,
         tables: &mut [u8],
@@ -58,10 +58,10 @@ impl Endpoint {
         ensures { Steps (λ w. require 7 (leb frame.channel (settings_of w).channel_max) (λ _. session_read (role_of w) (view_as (state_says state) w) (frame_of frame) spare (performative_says performative).0 (performative_says performative).1)) self tables.old (answer_says result.answer) result.endpoint tables.new }
     {
         if self.channel_max() < frame.channel {
-            return self.refused(7);
+            return self.refused(Refusal::ChannelTooHigh);
         }
         if !state.takes_session_frames() {
-            return self.refused(20);
+            return self.refused(Refusal::IllegalState);
         }
         match performative {
             Performative::Open {
@@ -85,21 +85,21 @@ impl Endpoint {
         self,
         tables: &mut [u8],
         frame: Incoming,
-        remote: RemoteChannel,
+        remote: Option<u16>,
         spare: u32,
     ) -> Routed
         requires { frame.channel < places_of self }
         ensures { Steps (λ w. begun (role_of w) (view_as Opened w) (frame_of frame) spare (channel_says remote)) self tables.old (answer_says result.answer) result.endpoint tables.new }
     {
-        let RemoteChannel::Is(r) = remote else {
+        let Some(r) = remote else {
             return self.on_new_session(tables, frame, spare);
         };
-        let Held::Handle(handle) = self.handle_at(tables, r) else {
-            return self.refused(24);
+        let Some(handle) = self.handle_at(tables, r) else {
+            return self.refused(Refusal::NotFound);
         };
         ties::tie(tables, self.channel_max(), frame.channel, r, handle);
         Routed {
-            answer: forward(frame, 17, handle),
+            answer: Ok(forward(frame, 17, handle)),
             endpoint: self,
         }
     }
@@ -111,25 +111,25 @@ impl Endpoint {
     {
         let own_role = self.role;
         let Role::Listener = own_role else {
-            return self.refused(25);
+            return self.refused(Refusal::NotImplemented);
         };
         let outgoing = self.outgoing;
         let a = outgoing.allocate(tables, spare);
         let answer = a.answer;
-        let Allocated::Channel(channel) = answer else {
-            return self.refused(25);
+        let Ok(channel) = answer else {
+            return self.refused(Refusal::NotImplemented);
         };
         let channels = a.channels;
         self.outgoing = channels;
         ties::tie(tables, self.channel_max(), frame.channel, channel, spare);
         Routed {
-            answer: FrameAnswer::Began {
+            answer: Ok(FrameAnswer::Began {
                 consumed: frame.size,
                 channel,
                 handle: spare,
                 from: frame.from,
                 len: body_len(frame),
-            },
+            }),
             endpoint: self,
         }
     }
@@ -139,12 +139,12 @@ impl Endpoint {
         requires { frame.channel < places_of self }
         ensures { Steps (λ w. untie (frame_of frame) (ties_of w frame.channel)) self tables.old (answer_says result.answer) result.endpoint tables.new }
     {
-        let Held::Handle(handle) = self.tied_handle(tables, frame.channel) else {
-            return self.refused(24);
+        let Some(handle) = self.tied_handle(tables, frame.channel) else {
+            return self.refused(Refusal::NotFound);
         };
         ties::untie(tables, self.channel_max(), frame.channel);
         Routed {
-            answer: forward(frame, 23, handle),
+            answer: Ok(forward(frame, 23, handle)),
             endpoint: self,
         }
     }
@@ -152,11 +152,11 @@ impl Endpoint {
     fn pass_on(self, tables: &[u8], frame: Incoming, code: u8) -> Routed
         ensures { Steps (λ w. pass_on (frame_of frame) code (ties_of w frame.channel)) self tables.now (answer_says result.answer) result.endpoint tables.now }
     {
-        let Held::Handle(handle) = self.tied_handle(tables, frame.channel) else {
-            return self.refused(24);
+        let Some(handle) = self.tied_handle(tables, frame.channel) else {
+            return self.refused(Refusal::NotFound);
         };
         Routed {
-            answer: forward(frame, code, handle),
+            answer: Ok(forward(frame, code, handle)),
             endpoint: self,
         }
     }

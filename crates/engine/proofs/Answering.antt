@@ -3,19 +3,16 @@
 use mathlib.Core.Path.{◌≡◌, refl, sym, ◌∙◌, ap, subst}
 use mathlib.Core.Bool.{true}
 use mathlib.Core.List.{List, [], ◌∷◌, ◌++◌, append-nil}
-use mathlib.Core.Option.{none}
+use Rattle.std.specs.Prelude.{None, Result, Ok, Err}
 use Prim.Native.Nat.{ℕ, ◌+◌, ◌-◌, ◌≤◌}
 use native.Mathlib.Omega.{arith}
 use lib.ListN.{length, drop, length-append, length-drop}
-use types.Run.{OneOf, miss}
-use denote.Enum.Declared.{tag_of}
 use borrow.Rule.Slice.PartMut.{mid_of, put_mid, same_len_mid, put_same}
 use Rattle.octets.specs.Verdict.{Verdict, refuse, accept}
 use Rattle.octets.specs.Output.{room_for, laid}
 use Rattle.octets.proofs.Laws.{room_yes}
-use Rattle.octets.specs.declared.Written.{Written}
-use Rattle.octets.specs.declared.Written.TheVariants.{Bytes, Refused}
-use Rattle.octets.specs.contracts.Written.{the_type as written_type}
+use Rattle.octets.specs.Refusal.{number_of}
+use Rattle.octets.specs.declared.Refusal.{Refusal}
 use Rattle.frame_decoder.specs.Frame.{session_frames}
 use Rattle.connection_state.specs.Answers.{state_says}
 use Rattle.connection_state.specs.declared.ConnectionState.{ConnectionState}
@@ -46,7 +43,7 @@ use Rattle.engine.proofs.Trailing.{ends_refused, ends_accepted}
 module _ (a : Verdict Answer) (c : View.Whole) (n : ℕ) (w lent o : List ℕ) (t : TrailedIn) (dr : Drains c n w lent o t) where
   -- what the whole comes to
   abbrev all_calls : M.Trail
-  all_calls = M.trail (View.role_of c) (View.settings_of c) (wrote 0) (View.view_of c) (sending (frames_in n w) none lent)
+  all_calls = M.trail (View.role_of c) (View.settings_of c) (wrote 0) (View.view_of c) (sending (frames_in n w) None lent)
 
   abbrev rest : K.Connection → List ℕ → M.Landing
   rest c' bytes = M.landing (M.phase_answered (View.role_of c) (View.view_of c).state a c'.state) c' bytes
@@ -70,7 +67,7 @@ module _ (a : Verdict Answer) (c : View.Whole) (n : ℕ) (w lent o : List ℕ) (
 
   -- a waiting frame was refused
   refused_answers :
-      (k : ℕ) (error : InnerError) (out : List ℕ) (l : LandedIn) → t.answer ≡ Refused k → error_says error ≡ send_fault k → Fails (error_says error) t.connection t.written o out l → Answered a c n w lent out l
+      (k : Refusal) (error : InnerError) (out : List ℕ) (l : LandedIn) → t.answer ≡ Err k → error_says error ≡ send_fault (number_of k) → Fails (error_says error) t.connection t.written o out l → Answered a c n w lent out l
   refused_answers k error out l q e f =
       let kp = dr.drains_keeps in
       record {
@@ -78,22 +75,22 @@ module _ (a : Verdict Answer) (c : View.Whole) (n : ℕ) (w lent o : List ℕ) (
         answered = λ z fr room.
             let d = dr.drains z fr room in
             let T = waiting_trail c n w lent in
-            let last : T.last ≡ refuse k = sym d.drained_last ∙ ap sent_says q in
+            let last : T.last ≡ refuse (number_of k) = sym d.drained_last ∙ ap sent_says q in
             let L = f.fails (kp.keeps_sound z) T.bytes lent d.drained_count d.drained_output (room_fewer (length w) lent room) (room_left d) in
             subst (λ u. Lands u lent out l)
             ((λ i. M.fail (kp.keeps_same.same_role i) (kp.keeps_same.same_settings i) (e i) (d.drained_connection i) T.bytes lent)
-            ∙ onward_refused T k last
-            ∙ ap answers_by (sym (ends_refused (View.role_of c) (View.settings_of c) none lent (frames_in n w) (wrote 0) (View.view_of c) k last)))
+            ∙ onward_refused T (number_of k) last
+            ∙ ap answers_by (sym (ends_refused (View.role_of c) (View.settings_of c) None lent (frames_in n w) (wrote 0) (View.view_of c) (number_of k) last)))
             L;
       }
 
   -- ---- the frames were sent, and the Close was tried
 
-  accepted_is : (x : Written) → OneOf (0 ∷ []) (tag_of written_type x) → (b : Answer) × (sent_says x ≡ accept b)
-  accepted_is (Bytes m) h = (wrote m, refl)
-  accepted_is (Refused k) h = absurd (miss (0 ∷ []) 1 tt h)
+  accepted_is : (x : Result ℕ Refusal) → ((k : Refusal) → x ≡ Err k → ⊥) → (b : Answer) × (sent_says x ≡ accept b)
+  accepted_is (Ok m) h = (wrote m, refl)
+  accepted_is (Err k) h = absurd (h k refl)
 
-  module _ (sent : OneOf (0 ∷ []) (tag_of written_type t.answer)) (s : List ℕ) (d : View.Whole) (closed : Written) (p : C.Does (send_close_to none (mid_of t.written (length o - t.written) o)) t.connection (sent_says closed) s d)
+  module _ (sent : (k : Refusal) → t.answer ≡ Err k → ⊥) (s : List ℕ) (d : View.Whole) (closed : Result ℕ Refusal) (p : C.Does (send_close_to None (mid_of t.written (length o - t.written) o)) t.connection (sent_says closed) s d)
       (same : length s ≡ length (mid_of t.written (length o - t.written) o)) where
     abbrev left : List ℕ
     left = mid_of t.written (length o - t.written) o
@@ -102,7 +99,7 @@ module _ (a : Verdict Answer) (c : View.Whole) (n : ℕ) (w lent o : List ℕ) (
     out = put_mid t.written (length o - t.written) o s
 
     kept : Keeps c d
-    kept = keeps_on c t.connection d dr.drains_keeps (keeps_of (send_close_to none left) t.connection d (sent_says closed) s p)
+    kept = keeps_on c t.connection d dr.drains_keeps (keeps_of (send_close_to None left) t.connection d (sent_says closed) s p)
 
     module _ (z : View.Sound c) (fr : session_frames (View.settings_of c).channel_max w ≡ accept n) (room : room_for (length w) lent ≡ true) where
       dd : Drained (waiting_trail c n w lent) lent o t
@@ -115,25 +112,25 @@ module _ (a : Verdict Answer) (c : View.Whole) (n : ℕ) (w lent o : List ℕ) (
       sound = dr.drains_keeps.keeps_sound z
 
       -- the Close comes to the same with the whole output lent
-      rule_is : decide (View.role_of c) (View.settings_of c) T.connection (send_close_to none lent) ≡ rule_of t.connection (send_close_to none left)
+      rule_is : decide (View.role_of c) (View.settings_of c) T.connection (send_close_to None lent) ≡ rule_of t.connection (send_close_to None left)
       rule_is =
-          (λ i. decide (sym dr.drains_keeps.keeps_same.same_role i) (sym dr.drains_keeps.keeps_same.same_settings i) (sym dd.drained_connection i) (send_close_to none lent))
-          ∙ close_same (View.role_of t.connection) (View.settings_of t.connection) (View.view_of t.connection) none lent left (room_fewer (length w) lent room) (ap (room_for 0) (rest_is o t.written) ∙ room_left dd)
+          (λ i. decide (sym dr.drains_keeps.keeps_same.same_role i) (sym dr.drains_keeps.keeps_same.same_settings i) (sym dd.drained_connection i) (send_close_to None lent))
+          ∙ close_same (View.role_of t.connection) (View.settings_of t.connection) (View.view_of t.connection) None lent left (room_fewer (length w) lent room) (ap (room_for 0) (rest_is o t.written) ∙ room_left dd)
 
       abbrev closing : Verdict K.Outcome → M.Trail
       closing v = M.wrote_before T.bytes (M.further (View.settings_of c) T.connection (λ x c'. M.trail (View.role_of c) (View.settings_of c) x c' []) v)
 
-      all_is : all_calls ≡ closing (rule_of t.connection (send_close_to none left))
+      all_is : all_calls ≡ closing (rule_of t.connection (send_close_to None left))
       all_is =
           let b = accepted_is t.answer sent in
-          ends_accepted (View.role_of c) (View.settings_of c) none lent (frames_in n w) (wrote 0) (View.view_of c) b.0 (sym dd.drained_last ∙ b.1) ∙ ap closing rule_is
+          ends_accepted (View.role_of c) (View.settings_of c) None lent (frames_in n w) (wrote 0) (View.view_of c) b.0 (sym dd.drained_last ∙ b.1) ∙ ap closing rule_is
 
       -- the Close was written
       lands_written :
-          (m x : ℕ) (ph : Phase) → closed ≡ Bytes m → (t.written + m ≤ length out → x ≡ t.written + m) → t.written ≤ length o
+          (m x : ℕ) (ph : Phase) → closed ≡ Ok m → (t.written + m ≤ length out → x ≡ t.written + m) → t.written ≤ length o
           → phase_says ph ≡ M.phase_answered (View.role_of d) (View.view_of c).state a (View.view_of d).state → Lands (answers_by all_calls) lent out (record { phase = ph; written = x; connection = d })
       lands_written m x ph q ad le pe =
-          let A = inner_accepted (send_close_to none left) t.connection d (wrote m) _ s p (ap sent_says q) sound in
+          let A = inner_accepted (send_close_to None left) t.connection d (wrote m) _ s p (ap sent_says q) sound in
           let v : View.view_of d ≡ apply (View.settings_of c) A.outcome.effect T.connection = A.leads ∙ (λ i. apply (dr.drains_keeps.keeps_same.same_settings i) A.outcome.effect (dd.drained_connection i)) in
           let fit : length A.outcome.bytes ≤ length left = fits A.outcome.bytes left s A.puts same in
           let long : length left ≡ length o - t.written = ap length (rest_is o t.written) ∙ length-drop t.written o in
@@ -153,12 +150,12 @@ module _ (a : Verdict Answer) (c : View.Whole) (n : ℕ) (w lent o : List ℕ) (
 
       -- the Close was refused
       lands_refused :
-          (k : ℕ) (error : InnerError) (out' : List ℕ) (l : LandedIn) → closed ≡ Refused k → error_says error ≡ send_fault k → Fails (error_says error) d t.written out out' l → Lands (answers_by all_calls) lent out' l
+          (k : Refusal) (error : InnerError) (out' : List ℕ) (l : LandedIn) → closed ≡ Err k → error_says error ≡ send_fault (number_of k) → Fails (error_says error) d t.written out out' l → Lands (answers_by all_calls) lent out' l
       lands_refused k error out' l q e f =
-          let g = p.refused k (ap sent_says q) in
+          let g = p.refused (number_of k) (ap sent_says q) in
           let back : out ≡ o = ap (put_mid t.written (length o - t.written) o) g.1 ∙ put_same t.written (length o - t.written) o in
           let f' : Fails (error_says error) t.connection t.written o out' l = subst (λ y. Fails (error_says error) t.connection t.written y out' l) back (subst (λ y. Fails (error_says error) y t.written out out' l) g.0 f) in
-          let r : rule_of t.connection (send_close_to none left) ≡ refuse k = inner_refused (send_close_to none left) t.connection d k _ s p (ap sent_says q) sound in
+          let r : rule_of t.connection (send_close_to None left) ≡ refuse (number_of k) = inner_refused (send_close_to None left) t.connection d (number_of k) _ s p (ap sent_says q) sound in
           let L = f'.fails sound T.bytes lent dd.drained_count dd.drained_output (room_fewer (length w) lent room) (room_left dd) in
           subst (λ u. Lands u lent out' l)
           ((λ i. M.fail (dr.drains_keeps.keeps_same.same_role i) (dr.drains_keeps.keeps_same.same_settings i) (e i) (dd.drained_connection i) (sym (append-nil T.bytes) i) lent)
@@ -167,14 +164,14 @@ module _ (a : Verdict Answer) (c : View.Whole) (n : ℕ) (w lent o : List ℕ) (
 
     -- ---- of any connection
 
-    unclosed_answers : (k : ℕ) (error : InnerError) (out' : List ℕ) (l : LandedIn) → closed ≡ Refused k → error_says error ≡ send_fault k → Fails (error_says error) d t.written out out' l → Answered a c n w lent out' l
+    unclosed_answers : (k : Refusal) (error : InnerError) (out' : List ℕ) (l : LandedIn) → closed ≡ Err k → error_says error ≡ send_fault (number_of k) → Fails (error_says error) d t.written out out' l → Answered a c n w lent out' l
     unclosed_answers k error out' l q e f = record {
       answered_keeps = keeps_on c d l.connection kept f.fails_keeps;
       answered = λ z fr room. lands_refused z fr room k error out' l q e f;
     }
 
     closed_answers :
-        (m v : ℕ) (ph : Phase) → closed ≡ Bytes m → phase_says ph ≡ M.phase_answered (View.role_of d) (View.view_of c).state a (View.view_of d).state → (v ≤ length out) × (t.written + m ≤ length out → v ≡ t.written + m)
+        (m v : ℕ) (ph : Phase) → closed ≡ Ok m → phase_says ph ≡ M.phase_answered (View.role_of d) (View.view_of c).state a (View.view_of d).state → (v ≤ length out) × (t.written + m ≤ length out → v ≡ t.written + m)
         → Answered a c n w lent out (record { phase = ph; written = v; connection = d })
     closed_answers m v ph q pe ad = record {
       answered_keeps = kept;
@@ -188,21 +185,21 @@ module _ (a : Verdict Answer) (c : Connection) (t : List ℕ) (n : ℕ) (w lent 
   Answers out l = (id : List ℕ) → Answered a (View.whole c t id) n w lent out (landed_in l t' id)
 
   pub answers_refused :
-      (k : ℕ) (error : InnerError) (out : List ℕ) (l : Landed) → d.answer ≡ Refused k → error_says error ≡ send_fault k
+      (k : Refusal) (error : InnerError) (out : List ℕ) (l : Landed) → d.answer ≡ Err k → error_says error ≡ send_fault (number_of k)
       → ((u id : List ℕ) → Fails (error_says error) (View.whole d.connection u id) d.written o out (landed_in l u id)) → Answers out l
   answers_refused k error out l q e f id = refused_answers a (View.whole c t id) n w lent o (trailed_in d t' id) (dr id) k error out (landed_in l t' id) q e (f t' id)
 
-  module _ (sent : OneOf (0 ∷ []) (tag_of written_type d.answer)) (s : List ℕ) (x : Connection) (closed : Written)
-      (p : (u id : List ℕ) → C.Does (send_close_to none (mid_of d.written (length o - d.written) o)) (View.whole d.connection u id) (sent_says closed) s (View.whole x u id))
+  module _ (sent : (k : Refusal) → d.answer ≡ Err k → ⊥) (s : List ℕ) (x : Connection) (closed : Result ℕ Refusal)
+      (p : (u id : List ℕ) → C.Does (send_close_to None (mid_of d.written (length o - d.written) o)) (View.whole d.connection u id) (sent_says closed) s (View.whole x u id))
       (same : length s ≡ length (mid_of d.written (length o - d.written) o)) where
     pub answers_unclosed :
-        (k : ℕ) (error : InnerError) (out : List ℕ) (l : Landed) → closed ≡ Refused k → error_says error ≡ send_fault k
+        (k : Refusal) (error : InnerError) (out : List ℕ) (l : Landed) → closed ≡ Err k → error_says error ≡ send_fault (number_of k)
         → ((u id : List ℕ) → Fails (error_says error) (View.whole x u id) d.written (put_mid d.written (length o - d.written) o s) out (landed_in l u id)) → Answers out l
     answers_unclosed k error out l q e f id =
         unclosed_answers a (View.whole c t id) n w lent o (trailed_in d t' id) (dr id) sent s (View.whole x t' id) closed (p t' id) same k error out (landed_in l t' id) q e (f t' id)
 
     pub answers_closed :
-        (y z : ConnectionState) (role : E.Role) (m v : ℕ) (ph : Phase) → closed ≡ Bytes m → y ≡ c.local_state → z ≡ x.local_state → role ≡ x.endpoint.role
+        (y z : ConnectionState) (role : E.Role) (m v : ℕ) (ph : Phase) → closed ≡ Ok m → y ≡ c.local_state → z ≡ x.local_state → role ≡ x.endpoint.role
         → phase_says ph ≡ M.phase_answered (role_says role) (state_says y) a (state_says z)
         → (v ≤ length (put_mid d.written (length o - d.written) o s)) × (d.written + m ≤ length (put_mid d.written (length o - d.written) o s) → v ≡ d.written + m)
         → Answers (put_mid d.written (length o - d.written) o s) (record { phase = ph; written = v; connection = x })

@@ -2,7 +2,7 @@
 -- Assumes nothing.
 use mathlib.Core.Path.{◌≡◌, refl}
 use mathlib.Core.List.{List, [], ◌∷◌}
-use mathlib.Core.Option.{Option, none, some}
+use Rattle.std.specs.Prelude.{Option, None, Some}
 use Prim.Native.Nat.{ℕ}
 use lib.Dec.{eqb}
 use lib.ListN.{length}
@@ -42,22 +42,22 @@ module _ (role : Role) (S : Settings) (c : Connection) where
 
   module _ (f : Frame) where
     on_tie_to : (r : ℕ) (o : Option ℕ) → AllCounted (tie_to f r o)
-    on_tie_to r none = refused
-    on_tie_to r (some h) = holds refl
+    on_tie_to r None = refused
+    on_tie_to r (Some h) = holds refl
 
     on_untie : (o : Option Tie) → AllCounted (untie f o)
-    on_untie none = refused
-    on_untie (some h) = holds refl
+    on_untie None = refused
+    on_untie (Some h) = holds refl
 
     on_pass_on : (code : ℕ) (o : Option Tie) → AllCounted (pass_on f code o)
-    on_pass_on code none = refused
-    on_pass_on code (some h) = holds refl
+    on_pass_on code None = refused
+    on_pass_on code (Some h) = holds refl
 
     on_new_session : (ρ : Role) (h : ℕ) (l : Option (List ℕ)) → AllCounted (new_session ρ f h l)
     on_new_session dialler h l = refused
-    on_new_session listener h none = refused
-    on_new_session listener h (some []) = refused
-    on_new_session listener h (some (ch ∷ rest)) = holds refl
+    on_new_session listener h None = refused
+    on_new_session listener h (Some []) = refused
+    on_new_session listener h (Some (ch ∷ rest)) = holds refl
 
     on_begun : (h : ℕ) (rs : List ℕ) → AllCounted (begun role c f h rs)
     on_begun h [] = on_new_session role h c.hand_out
@@ -77,17 +77,17 @@ module _ (role : Role) (S : Settings) (c : Connection) where
         (on_session_read h p.code (remote_channel p))))
 
   on_frame : (h : ℕ) (r : Frame × Option Performative) → AllCounted (frame_read role S c h r)
-  on_frame h (f, none) = holds refl
-  on_frame h (f, some p) = on_performative f h p
+  on_frame h (f, None) = holds refl
+  on_frame h (f, Some p) = on_performative f h p
 
   on_given : (h : ℕ) (l : Option (List ℕ)) → AllCounted (given h l)
-  on_given h none = refused
-  on_given h (some []) = refused
-  on_given h (some (ch ∷ rest)) = holds refl
+  on_given h None = refused
+  on_given h (Some []) = refused
+  on_given h (Some (ch ∷ rest)) = holds refl
 
   on_released : (ch : ℕ) (o : Option ℕ) → AllCounted (released ch o)
-  on_released ch none = refused
-  on_released ch (some h) = holds refl
+  on_released ch None = refused
+  on_released ch (Some h) = holds refl
 
   tells : (call : Call) → AllCounted (decide role S c call)
   tells (send_header_to out) = on_require _ _ _ _ (λ t. on_any _ _ _ (λ x. holds refl))

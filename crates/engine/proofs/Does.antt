@@ -8,7 +8,6 @@ use native.Mathlib.Omega.{arith}
 use lib.ListN.{length}
 use Rattle.octets.specs.Verdict.{Verdict, refuse, accept}
 use Rattle.octets.specs.Output.{laid}
-use Rattle.frame_decoder.specs.Answers.{refusal_in}
 use Rattle.connection_model.specs.Connection as K
 use Rattle.connection_model.specs.Connection.{Answer, Call, decide, apply, answered}
 use Rattle.endpoint.specs.Promises as E
@@ -89,7 +88,7 @@ the_answer a (refuse k) = a
 the_answer a (accept b) = b
 
 was_refused : (v : Verdict K.Outcome) (k : ℕ) → answered v ≡ refuse k → v ≡ refuse k
-was_refused (refuse j) k e = ap refuse (ap refusal_in e)
+was_refused (refuse j) k e = ap refuse (cc)
 was_refused (accept o) k e = let z : ◌≡◌ {A = ℕ} 0 1 = cc in absurd (omega arith)
 
 -- of a sound connection: a refusal, or an outcome

@@ -4,6 +4,7 @@
 use mathlib.Core.Path.{◌≡◌, refl, sym, ◌∙◌, ap, subst}
 use mathlib.Core.Bool.{true}
 use mathlib.Core.List.{List, [], ◌∷◌, ◌++◌, append_assoc, append-nil}
+use Rattle.std.specs.Prelude.{Result, Ok, Err}
 use Prim.Native.Nat.{ℕ, suc, ◌+◌, ◌*◌, ◌-◌, ◌≤◌, ◌<◌}
 use native.Mathlib.Omega.{arith}
 use lib.ListN.{length, take, drop, get_or, length-append, length-drop}
@@ -15,8 +16,8 @@ use borrow.Author.Tests.{leb-true}
 use borrow.Rule.Slice.PartMut.{mid_of, put_mid, same_len_mid, put_same}
 use Rattle.octets.specs.Verdict.{Verdict, refuse, accept}
 use Rattle.octets.specs.Output.{room_for, laid}
-use Rattle.octets.specs.declared.Written.{Written}
-use Rattle.octets.specs.declared.Written.TheVariants.{Bytes, Refused}
+use Rattle.octets.specs.Refusal.{number_of}
+use Rattle.octets.specs.declared.Refusal.{Refusal}
 use Rattle.octets.proofs.Laws.{require_on, then_accept, room_yes}
 use Rattle.values.proofs.Apart.{never, then_was}
 use Rattle.performatives.specs.Performative.{Performative}
@@ -140,8 +141,8 @@ pub record Going (c : Connection) (t : List ℕ) (n : ℕ) (w lent out : List �
       (id : List ℕ) → View.Sound (View.whole c t id) → session_frames (View.settings_of (View.whole c t id)).channel_max w ≡ accept n → room_for (length w) lent ≡ true
       → OnWay (View.whole c t id) n w lent out (View.whole d u id) at left written last
 
-pub going_start : (c : Connection) (t : List ℕ) (n : ℕ) (w lent : List ℕ) → Going c t n w lent lent c t 0 n 0 0
-going_start c t n w lent = record {
+going_first : (c : Connection) (t : List ℕ) (n : ℕ) (w lent : List ℕ) → Going c t n w lent lent c t 0 n 0 0
+going_first c t n w lent = record {
   going_tables = refl;
   going_length = refl;
   going_at = omega arith;
@@ -157,17 +158,20 @@ going_start c t n w lent = record {
   };
 }
 
+pub going_start : (c : Connection) (t : List ℕ) (n : ℕ) (w lent : List ℕ) (left : ℕ) → left ≡ n → Going c t n w lent lent c t 0 left 0 0
+going_start c t n w lent left e = rw e (going_first c t n w lent)
+
 room_was : (n : ℕ) (out : List ℕ) → room_for n out ≡ true → 16384 + 2 * n ≤ length out
 unfolding room_for
 room_was n out e = leb-true _ _ e
 
 -- where the sending stops
-abbrev stops_at : Written → ℕ → View.Whole → TrailedIn
+abbrev stops_at : Result ℕ Refusal → ℕ → View.Whole → TrailedIn
 stops_at a written d = record { answer = a; written = written; connection = d }
 
 pub drained_all :
     (c : Connection) (t : List ℕ) (n : ℕ) (w lent out : List ℕ) (d : Connection) (u : List ℕ) (at left written last : ℕ) → Going c t n w lent out d u at left written last → left ≤ 0
-    → (id : List ℕ) → Drains (View.whole c t id) n w lent out (stops_at (Bytes last) written (View.whole d u id))
+    → (id : List ℕ) → Drains (View.whole c t id) n w lent out (stops_at (Ok last) written (View.whole d u id))
 drained_all c t n w lent out d u at left written last g h id =
     let was = View.whole c t id in
     let is = View.whole d u id in
@@ -181,7 +185,7 @@ drained_all c t n w lent out d u at left written last g h id =
           o.way_trail ∙ ap (λ (k : ℕ). M.wrote_before o.bytes (M.trail (View.role_of was) (View.settings_of was) (wrote last) (View.view_of is) (sends_of (M.frames_in k (drop at w)) lent))) zero_left in
           let b : o.bytes ++ [] ≡ o.bytes = append-nil o.bytes in
           let m = room_was (length w) lent r in
-          subst (λ T. Drained T lent out (stops_at (Bytes last) written is)) (sym q) (record {
+          subst (λ T. Drained T lent out (stops_at (Ok last) written is)) (sym q) (record {
             drained_last = refl;
             drained_connection = refl;
             drained_count = o.way_count ∙ ap length (sym b);
@@ -209,7 +213,7 @@ module _ (c : Connection) (t : List ℕ) (n : ℕ) (w lent out : List ℕ) (d : 
   abbrev later_out : List ℕ
   later_out = put_mid written (length out - written) out s
 
-  abbrev Answers : Written → Type 0
+  abbrev Answers : Result ℕ Refusal → Type 0
   Answers a = (id : List ℕ) → C.DoesIn the_call (View.whole d u id) (sent_says a) s (View.whole d' u' id)
 
   is_suc : left ≡ suc (left - 1)
@@ -258,22 +262,22 @@ module _ (c : Connection) (t : List ℕ) (n : ℕ) (w lent out : List ℕ) (d : 
     trail_first T b e = e ∙ ap (λ (k : ℕ). M.wrote_before b (M.trail role settings (wrote last) (View.view_of this_whole) (sends_of (M.frames_in k (drop at w)) lent))) is_suc
 
   module _ (same : length s ≡ length rest_out) where
-    drained_stopped : (k : ℕ) (id : List ℕ) → C.Does the_call (this_whole id) (refuse k) s (next_whole id) → Drains (first_whole id) n w lent later_out (stops_at (Refused k) written (next_whole id))
+    drained_stopped : (k : Refusal) (id : List ℕ) → C.Does the_call (this_whole id) (refuse (number_of k)) s (next_whole id) → Drains (first_whole id) n w lent later_out (stops_at (Err k) written (next_whole id))
     drained_stopped k id p =
-        let e = p.refused k refl in
+        let e = p.refused (number_of k) refl in
         let back : later_out ≡ out = ap (put_mid written (length out - written) out) e.1 ∙ put_same written (length out - written) out in
         record {
-          drains_keeps = keeps_on (first_whole id) (this_whole id) (next_whole id) (kept id) (keeps_of the_call (this_whole id) (next_whole id) (refuse k) s p);
+          drains_keeps = keeps_on (first_whole id) (this_whole id) (next_whole id) (kept id) (keeps_of the_call (this_whole id) (next_whole id) (refuse (number_of k)) s p);
           drains_inside = subst (λ x. written ≤ length x) (sym back) g.going_written;
           drains = λ z f r.
               let o = g.going id z f r in
               let m = room_was (length w) lent r in
-              let q = as_lent id z f r (refuse k) (inner_refused the_call (this_whole id) (next_whole id) k (refuse k) s p refl ((kept id).keeps_sound z)) in
-              let x : waiting_trail (first_whole id) n w lent ≡ record { last = refuse k; connection = View.view_of (this_whole id); bytes = o.bytes ++ [] } =
+              let q = as_lent id z f r (refuse (number_of k)) (inner_refused the_call (this_whole id) (next_whole id) (number_of k) (refuse (number_of k)) s p refl ((kept id).keeps_sound z)) in
+              let x : waiting_trail (first_whole id) n w lent ≡ record { last = refuse (number_of k); connection = View.view_of (this_whole id); bytes = o.bytes ++ [] } =
               trail_first id _ o.bytes o.way_trail
-              ∙ ap (M.wrote_before o.bytes) (trail_stops (role id) (settings id) (wrote last) (View.view_of (this_whole id)) (send_session_frame (drop at w) lent) (later id) k q) in
+              ∙ ap (M.wrote_before o.bytes) (trail_stops (role id) (settings id) (wrote last) (View.view_of (this_whole id)) (send_session_frame (drop at w) lent) (later id) (number_of k) q) in
               let b : o.bytes ++ [] ≡ o.bytes = append-nil o.bytes in
-              subst (λ T. Drained T lent later_out (stops_at (Refused k) written (next_whole id))) (sym x) (record {
+              subst (λ T. Drained T lent later_out (stops_at (Err k) written (next_whole id))) (sym x) (record {
                 drained_last = refl;
                 drained_connection = ap View.view_of e.0;
                 drained_count = o.way_count ∙ ap length (sym b);
@@ -282,10 +286,10 @@ module _ (c : Connection) (t : List ℕ) (n : ℕ) (w lent out : List ℕ) (d : 
               });
         }
 
-    pub drained_stop : (a : Written) (k : ℕ) → Answers a → a ≡ Refused k → (id : List ℕ) → Drains (first_whole id) n w lent later_out (stops_at a written (next_whole id))
+    pub drained_stop : (a : Result ℕ Refusal) (k : Refusal) → Answers a → a ≡ Err k → (id : List ℕ) → Drains (first_whole id) n w lent later_out (stops_at a written (next_whole id))
     drained_stop a k p e id =
-        subst (λ (v : Written). Drains (first_whole id) n w lent later_out (stops_at v written (next_whole id))) (sym e)
-        (drained_stopped k id (subst (λ (v : Written). C.Does the_call (this_whole id) (sent_says v) s (next_whole id)) e (p id).does))
+        subst (λ (v : Result ℕ Refusal). Drains (first_whole id) n w lent later_out (stops_at v written (next_whole id))) (sym e)
+        (drained_stopped k id (subst (λ (v : Result ℕ Refusal). C.Does the_call (this_whole id) (sent_says v) s (next_whole id)) e (p id).does))
 
     module _ (m size at' written' : ℕ) (oct : (i : ℕ) → Fits w8 (get_or w i 0)) (sz : size ≡ size_of part) (moved : (at' ≤ length w) × (at + size ≤ length w → at' ≡ at + size))
         (grown : (written' ≤ length later_out) × (written + m ≤ length later_out → written' ≡ written + m)) where
@@ -322,7 +326,7 @@ module _ (c : Connection) (t : List ℕ) (n : ℕ) (w lent out : List ℕ) (d : 
                 ∙ (λ i. M.wrote_before (o.bytes ++ a.outcome.bytes) (M.trail (role id) (settings id) (wrote m) (led i) (sends_of (M.frames_in (left - 1) (dd i)) lent)));
           }
 
-      pub going_on : (a : Written) → Answers a → a ≡ Bytes m → Going c t n w lent later_out d' u' at' (left - 1) written' m
+      pub going_on : (a : Result ℕ Refusal) → Answers a → a ≡ Ok m → Going c t n w lent later_out d' u' at' (left - 1) written' m
       going_on a p e =
           let p' : (id : List ℕ) → C.Does the_call (this_whole id) (accept (wrote m)) s (next_whole id) = λ id. subst (λ v. C.Does the_call (this_whole id) (sent_says v) s (next_whole id)) e (p id).does in
           let len : length later_out ≡ length out = same_len_mid written (length out - written) out s same in

@@ -3,7 +3,7 @@
 use mathlib.Core.Path.{◌≡◌, refl, sym, ◌∙◌, ap, subst}
 use mathlib.Core.Bool.{true, false, not}
 use mathlib.Core.List.{List, [], ◌∷◌}
-use mathlib.Core.Option.{Option, none, some}
+use Rattle.std.specs.Prelude.{Option, None, Some}
 use Prim.Native.Nat.{ℕ, ◌+◌, ◌*◌, ◌-◌, ◌/◌, ◌≤◌, ◌<◌}
 use native.Mathlib.Omega.{arith}
 use lib.ListN.{get_or}
@@ -31,8 +31,8 @@ text condition description = record { condition = condition; description = descr
 -- by the error's place
 abbrev texts : List ErrorText
 texts =
-    illegal.error ∷ illegal.error ∷ text not_found_condition none ∷ text not_found_condition (some no_session) ∷ text not_found_condition (some no_outgoing_channel)
-    ∷ text not_implemented_condition none ∷ text not_implemented_condition (some no_remote_session) ∷ []
+    illegal.error ∷ illegal.error ∷ text not_found_condition None ∷ text not_found_condition (Some no_session) ∷ text not_found_condition (Some no_outgoing_channel)
+    ∷ text not_implemented_condition None ∷ text not_implemented_condition (Some no_remote_session) ∷ []
 
 abbrev pub text_at : ℕ → ErrorText
 text_at i = get_or texts i illegal.error
@@ -49,7 +49,7 @@ module _ (c : Connection) (out : List ℕ) where
 
   module _ (a : Verdict Answer) (out' : List ℕ) (d : Connection) where
     abbrev Sends : ErrorText → Type 0
-    Sends e = (t id : List ℕ) → C.Does (send_close_to (some e) out) (View.whole c t id) a out' (View.whole d t id)
+    Sends e = (t id : List ℕ) → C.Does (send_close_to (Some e) out) (View.whole c t id) a out' (View.whole d t id)
 
     told_at : (error : InnerError) → 1 ≤ tag_of the_type error → Sends (text_at (tag_of the_type error)) → (t id : List ℕ) → SendsError (error_says error) (View.whole c t id) a out out' (View.whole d t id)
     told_at TransportError l p t id = let z : 1 ≤ 0 = l in absurd (omega arith)

@@ -3,7 +3,7 @@
 use mathlib.Core.Path.{◌≡◌, refl, sym, ◌∙◌, ap, subst}
 use mathlib.Core.Bool.{true}
 use mathlib.Core.List.{List, ◌++◌}
-use mathlib.Core.Option.{Option, none, some}
+use Rattle.std.specs.Prelude.{Option, None, Some, Result, Ok, Err}
 use Prim.Native.Nat.{ℕ, suc, ◌+◌, ◌-◌, ◌≤◌}
 use native.Mathlib.Omega.{arith}
 use lib.ListN.{length, drop, length-append, length-drop}
@@ -11,8 +11,8 @@ use borrow.Rule.Slice.PartMut.{mid_of, put_mid, same_len_mid, put_same}
 use Rattle.octets.specs.Verdict.{Verdict, refuse, accept}
 use Rattle.octets.specs.Output.{room_for, laid}
 use Rattle.octets.proofs.Laws.{require_on}
-use Rattle.octets.specs.declared.Written.{Written}
-use Rattle.octets.specs.declared.Written.TheVariants.{Bytes, Refused}
+use Rattle.octets.specs.Refusal.{number_of}
+use Rattle.octets.specs.declared.Refusal.{Refusal}
 use Rattle.frame_encoder.specs.Frames.{Settings, ErrorText}
 use Rattle.channels.specs.Places.{past}
 use Rattle.connection_state.specs.Answers.{state_says}
@@ -71,19 +71,19 @@ module _ (c : View.Whole) (n : ℕ) (o s : List ℕ) (d : View.Whole) (oc : Outc
   left = mid_of n (length o - n) o
 
   keeps : (f : Option M.Fault) (a : Verdict Answer) → SendsError f c a left s d → Keeps c d
-  keeps none a t = keeps_as c d t.1
-  keeps (some f) a t = keeps_of (send_close_to (some f.error) left) c d a s t
+  keeps None a t = keeps_as c d t.1
+  keeps (Some f) a t = keeps_of (send_close_to (Some f.error) left) c d a s t
 
   -- it was written
   lands_closed :
-      (f : M.Fault) (m w : ℕ) → C.Does (send_close_to (some f.error) left) c (accept (wrote m)) s d → outcome_says oc ≡ f.outcome → phase_says p ≡ M.closed_with (outcome_says oc) (state_says x)
+      (f : M.Fault) (m w : ℕ) → C.Does (send_close_to (Some f.error) left) c (accept (wrote m)) s d → outcome_says oc ≡ f.outcome → phase_says p ≡ M.closed_with (outcome_says oc) (state_says x)
       → (n + m ≤ length o → w ≡ n + m) → View.Sound c → (bytes lent : List ℕ) → n ≡ length bytes → o ≡ laid (accept bytes) lent → room_for 0 lent ≡ true → room_for 0 (drop n o) ≡ true → n ≤ length o
-      → Lands (M.fail (View.role_of c) (View.settings_of c) (some f) (View.view_of c) bytes lent) lent (put_mid n (length o - n) o s) (record { phase = p; written = w; connection = d })
+      → Lands (M.fail (View.role_of c) (View.settings_of c) (Some f) (View.view_of c) bytes lent) lent (put_mid n (length o - n) o s) (record { phase = p; written = w; connection = d })
   lands_closed f m w t q ph ad z bytes lent e l r r' le =
-      let a = inner_accepted (send_close_to (some f.error) left) c d (wrote m) _ s t refl z in
-      let v : decide (View.role_of c) (View.settings_of c) (View.view_of c) (send_close_to (some f.error) lent) ≡ accept a.outcome =
-      close_same (View.role_of c) (View.settings_of c) (View.view_of c) (some f.error) lent left r (ap (room_for 0) (rest_is o n) ∙ r') ∙ a.accepts in
-      let u : M.failed (View.settings_of c) f.outcome (View.view_of c) bytes (accept a.outcome) ≡ M.fail (View.role_of c) (View.settings_of c) (some f) (View.view_of c) bytes lent =
+      let a = inner_accepted (send_close_to (Some f.error) left) c d (wrote m) _ s t refl z in
+      let v : decide (View.role_of c) (View.settings_of c) (View.view_of c) (send_close_to (Some f.error) lent) ≡ accept a.outcome =
+      close_same (View.role_of c) (View.settings_of c) (View.view_of c) (Some f.error) lent left r (ap (room_for 0) (rest_is o n) ∙ r') ∙ a.accepts in
+      let u : M.failed (View.settings_of c) f.outcome (View.view_of c) bytes (accept a.outcome) ≡ M.fail (View.role_of c) (View.settings_of c) (Some f) (View.view_of c) bytes lent =
       ap (M.failed (View.settings_of c) f.outcome (View.view_of c) bytes) (sym v) in
       let fit : length a.outcome.bytes ≤ length left = fits a.outcome.bytes left s a.puts same in
       let long : length left ≡ length o - n = ap length (rest_is o n) ∙ length-drop n o in
@@ -99,13 +99,13 @@ module _ (c : View.Whole) (n : ℕ) (o s : List ℕ) (d : View.Whole) (oc : Outc
 
   -- it was refused
   lands_unclosed :
-      (f : M.Fault) (k : ℕ) → C.Does (send_close_to (some f.error) left) c (refuse k) s d → outcome_says oc ≡ f.outcome → phase_says p ≡ not_closed k (outcome_says oc) (state_says x) → View.Sound c
+      (f : M.Fault) (k : ℕ) → C.Does (send_close_to (Some f.error) left) c (refuse k) s d → outcome_says oc ≡ f.outcome → phase_says p ≡ not_closed k (outcome_says oc) (state_says x) → View.Sound c
       → (bytes lent : List ℕ) → n ≡ length bytes → o ≡ laid (accept bytes) lent → room_for 0 lent ≡ true → room_for 0 (drop n o) ≡ true
-      → Lands (M.fail (View.role_of c) (View.settings_of c) (some f) (View.view_of c) bytes lent) lent (put_mid n (length o - n) o s) (record { phase = p; written = n; connection = d })
+      → Lands (M.fail (View.role_of c) (View.settings_of c) (Some f) (View.view_of c) bytes lent) lent (put_mid n (length o - n) o s) (record { phase = p; written = n; connection = d })
   lands_unclosed f k t q ph z bytes lent e l r r' =
-      let v : decide (View.role_of c) (View.settings_of c) (View.view_of c) (send_close_to (some f.error) lent) ≡ refuse k =
-      close_same (View.role_of c) (View.settings_of c) (View.view_of c) (some f.error) lent left r (ap (room_for 0) (rest_is o n) ∙ r') ∙ inner_refused (send_close_to (some f.error) left) c d k _ s t refl z in
-      let u : M.failed (View.settings_of c) f.outcome (View.view_of c) bytes (refuse k) ≡ M.fail (View.role_of c) (View.settings_of c) (some f) (View.view_of c) bytes lent =
+      let v : decide (View.role_of c) (View.settings_of c) (View.view_of c) (send_close_to (Some f.error) lent) ≡ refuse k =
+      close_same (View.role_of c) (View.settings_of c) (View.view_of c) (Some f.error) lent left r (ap (room_for 0) (rest_is o n) ∙ r') ∙ inner_refused (send_close_to (Some f.error) left) c d k _ s t refl z in
+      let u : M.failed (View.settings_of c) f.outcome (View.view_of c) bytes (refuse k) ≡ M.fail (View.role_of c) (View.settings_of c) (Some f) (View.view_of c) bytes lent =
       ap (M.failed (View.settings_of c) f.outcome (View.view_of c) bytes) (sym v) in
       let g : (d ≡ c) × (s ≡ left) = t.refused k refl in
       subst (λ L. Lands L lent (put_mid n (length o - n) o s) (record { phase = p; written = n; connection = d })) u (record {
@@ -118,14 +118,14 @@ module _ (c : View.Whole) (n : ℕ) (o s : List ℕ) (d : View.Whole) (oc : Outc
   -- ---- both, of any error
 
   closed_fails :
-      (f : Option M.Fault) (a : Written) (m w : ℕ) → SendsError f c (sent_says a) left s d → a ≡ Bytes m → outcome_says oc ≡ M.outcome_of f → phase_says p ≡ M.closed_with (outcome_says oc) (state_says x) → n ≤ length o
+      (f : Option M.Fault) (a : Result ℕ Refusal) (m w : ℕ) → SendsError f c (sent_says a) left s d → a ≡ Ok m → outcome_says oc ≡ M.outcome_of f → phase_says p ≡ M.closed_with (outcome_says oc) (state_says x) → n ≤ length o
       → (w ≤ length (put_mid n (length o - n) o s)) × (n + m ≤ length (put_mid n (length o - n) o s) → w ≡ n + m) → Fails f c n o (put_mid n (length o - n) o s) (record { phase = p; written = w; connection = d })
-  closed_fails none a m w t q oe ph le ad = let y : accept (wrote m) ≡ refuse 27 = ap sent_says (sym q) ∙ t.0 in let z : ◌≡◌ {A = ℕ} 0 1 = cc in absurd (omega arith)
-  closed_fails (some f) a m w t q oe ph le ad =
-      let t' : C.Does (send_close_to (some f.error) left) c (accept (wrote m)) s d = subst (λ v. C.Does (send_close_to (some f.error) left) c (sent_says v) s d) q t in
+  closed_fails None a m w t q oe ph le ad = let y : accept (wrote m) ≡ refuse 27 = ap sent_says (sym q) ∙ t.0 in let z : ◌≡◌ {A = ℕ} 0 1 = cc in absurd (omega arith)
+  closed_fails (Some f) a m w t q oe ph le ad =
+      let t' : C.Does (send_close_to (Some f.error) left) c (accept (wrote m)) s d = subst (λ v. C.Does (send_close_to (Some f.error) left) c (sent_says v) s d) q t in
       let len : length (put_mid n (length o - n) o s) ≡ length o = same_len_mid n (length o - n) o s same in
       record {
-        fails_keeps = keeps (some f) (accept (wrote m)) t';
+        fails_keeps = keeps (Some f) (accept (wrote m)) t';
         fails = λ z bytes lent e l r r'. lands_closed f m w t' oe ph (λ h. ad.1 (omega arith)) z bytes lent e l r r' le;
       }
 
@@ -133,34 +133,34 @@ module _ (c : View.Whole) (n : ℕ) (o s : List ℕ) (d : View.Whole) (oc : Outc
   transport n' ph e = ph ∙ ap (λ k. not_closed k M.transport_error (state_says x)) e
 
   unclosed_fails :
-      (f : Option M.Fault) (a : Written) (k : ℕ) → SendsError f c (sent_says a) left s d → a ≡ Refused k → outcome_says oc ≡ M.outcome_of f → phase_says p ≡ not_closed k (outcome_says oc) (state_says x)
+      (f : Option M.Fault) (a : Result ℕ Refusal) (k : Refusal) → SendsError f c (sent_says a) left s d → a ≡ Err k → outcome_says oc ≡ M.outcome_of f → phase_says p ≡ not_closed (number_of k) (outcome_says oc) (state_says x)
       → Fails f c n o (put_mid n (length o - n) o s) (record { phase = p; written = n; connection = d })
-  unclosed_fails none a k t q oe ph =
-      let y : ◌≡◌ {A = Verdict Answer} (refuse k) (refuse 27) = ap sent_says (sym q) ∙ t.0 in
-      let k27 : k ≡ 27 = cc in
+  unclosed_fails None a k t q oe ph =
+      let y : ◌≡◌ {A = Verdict Answer} (refuse (number_of k)) (refuse 27) = ap sent_says (sym q) ∙ t.0 in
+      let k27 : number_of k ≡ 27 = cc in
       record {
-        fails_keeps = keeps none (sent_says a) t;
+        fails_keeps = keeps None (sent_says a) t;
         fails = λ z bytes lent e l r r'. record {
-          lands_phase = transport k (ph ∙ ap (λ u. not_closed k u (state_says x)) oe) k27;
+          lands_phase = transport (number_of k) (ph ∙ ap (λ u. not_closed (number_of k) u (state_says x)) oe) k27;
           lands_connection = ap View.view_of t.1;
           lands_count = e;
           lands_output = ap (put_mid n (length o - n) o) t.2 ∙ put_same n (length o - n) o ∙ l;
         };
       }
-  unclosed_fails (some f) a k t q oe ph =
-      let t' : C.Does (send_close_to (some f.error) left) c (refuse k) s d = subst (λ v. C.Does (send_close_to (some f.error) left) c (sent_says v) s d) q t in
-      record { fails_keeps = keeps (some f) (refuse k) t'; fails = λ z bytes lent e l r r'. lands_unclosed f k t' oe ph z bytes lent e l r r' }
+  unclosed_fails (Some f) a k t q oe ph =
+      let t' : C.Does (send_close_to (Some f.error) left) c (refuse (number_of k)) s d = subst (λ v. C.Does (send_close_to (Some f.error) left) c (sent_says v) s d) q t in
+      record { fails_keeps = keeps (Some f) (refuse (number_of k)) t'; fails = λ z bytes lent e l r r'. lands_unclosed f (number_of k) t' oe ph z bytes lent e l r r' }
 
 -- whatever the connection is lent
 module _ (c : Connection) (n : ℕ) (o s : List ℕ) (d : Connection) (oc : Outcome) (x : ConnectionState) (p : Phase) (st : x ≡ d.local_state) (same : length s ≡ length (mid_of n (length o - n) o)) where
   pub fails_closed :
-      (f : Option M.Fault) (a : Written) (m w : ℕ) → ((t id : List ℕ) → SendsError f (View.whole c t id) (sent_says a) (mid_of n (length o - n) o) s (View.whole d t id)) → a ≡ Bytes m → outcome_says oc ≡ M.outcome_of f
+      (f : Option M.Fault) (a : Result ℕ Refusal) (m w : ℕ) → ((t id : List ℕ) → SendsError f (View.whole c t id) (sent_says a) (mid_of n (length o - n) o) s (View.whole d t id)) → a ≡ Ok m → outcome_says oc ≡ M.outcome_of f
       → phase_says p ≡ M.closed_with (outcome_says oc) (state_says x) → n ≤ length o → (w ≤ length (put_mid n (length o - n) o s)) × (n + m ≤ length (put_mid n (length o - n) o s) → w ≡ n + m)
       → (t id : List ℕ) → Fails f (View.whole c t id) n o (put_mid n (length o - n) o s) (record { phase = p; written = w; connection = View.whole d t id })
   fails_closed f a m w h q oe ph le ad t id = closed_fails (View.whole c t id) n o s (View.whole d t id) oc x p (ap state_says st) same f a m w (h t id) q oe ph le ad
 
   pub fails_unclosed :
-      (f : Option M.Fault) (a : Written) (k : ℕ) → ((t id : List ℕ) → SendsError f (View.whole c t id) (sent_says a) (mid_of n (length o - n) o) s (View.whole d t id)) → a ≡ Refused k → outcome_says oc ≡ M.outcome_of f
-      → phase_says p ≡ not_closed k (outcome_says oc) (state_says x)
+      (f : Option M.Fault) (a : Result ℕ Refusal) (k : Refusal) → ((t id : List ℕ) → SendsError f (View.whole c t id) (sent_says a) (mid_of n (length o - n) o) s (View.whole d t id)) → a ≡ Err k → outcome_says oc ≡ M.outcome_of f
+      → phase_says p ≡ not_closed (number_of k) (outcome_says oc) (state_says x)
       → (t id : List ℕ) → Fails f (View.whole c t id) n o (put_mid n (length o - n) o s) (record { phase = p; written = n; connection = View.whole d t id })
   fails_unclosed f a k h q oe ph t id = unclosed_fails (View.whole c t id) n o s (View.whole d t id) oc x p (ap state_says st) same f a k (h t id) q oe ph

@@ -2,12 +2,17 @@
 -- Assumes nothing.
 use mathlib.Core.Path.{◌≡◌, refl, sym, ◌∙◌, ap, subst}
 use mathlib.Core.Bool.{Bool, true, false, cond, not, ◌&&◌}
-use mathlib.Core.List.{[], ◌∷◌}
+use mathlib.Core.List.{List, [], ◌∷◌}
+use Rattle.std.specs.Prelude.{None, Some}
 use Prim.Native.Nat.{ℕ}
 use types.Run.{OneOf, miss}
 use denote.Enum.Declared.{tag_of}
 use lib.Dec.{T}
-use borrow.Author.Tests.{eq-eqb, ne_eqb}
+use borrow.Author.Tests.{ne_eqb}
+use Rattle.octets.specs.Refusal.{number_of}
+use Rattle.octets.specs.declared.Refusal.{Refusal}
+use Rattle.octets.specs.declared.Refusal.TheVariants.{IllegalState as NotAllowed}
+use Rattle.octets.specs.contracts.Refusal.{the_type as refusal_type}
 use Rattle.connection_state.specs.States.{State, Start, HeaderReceived, HeaderSent, HeaderExchange, OpenPipe, OpenClosePipe, OpenReceived, OpenSent, ClosePipe, Opened, CloseReceived, CloseSent, Discarding, End, is, is_one_of}
 use Rattle.connection_state.proofs.States.{states, everywhere}
 use Rattle.connection_state.proofs.Laws.{failing, fails}
@@ -24,9 +29,9 @@ use Rattle.engine.specs.declared.Phase.{Phase}
 use Rattle.engine.specs.declared.Phase.TheVariants.{Running, Awaiting, Stopped}
 use Rattle.engine.specs.declared.Running.TheVariants.{Continue, Stop}
 use Rattle.engine.specs.contracts.Phase.{the_type}
-use Rattle.engine.specs.declared.ResumedEngine.TheVariants.{Is, Broken}
 use Rattle.engine.specs.Answers.{engine_of, phase_says, outcome_says, goes_on}
 use Rattle.engine.specs.Promises.{Settles, not_closed, resumed_as}
+use Rattle.engine.proofs.Refusals.{other}
 
 pub over : (c : Connection) (x : ConnectionState) (b : Bool) → x ≡ c.local_state → b ≡ is End (state_says x) → b ≡ true → Settles c (record { phase = Stopped Fine; connection = c })
 over c x b s e t = record { settles = ap (λ u. cond u (M.stopped M.fine) M.running) (sym t ∙ e ∙ ap (λ y. is End (state_says y)) s); settles_with = refl }
@@ -65,13 +70,17 @@ closed_over o x b e t = ap (λ u. cond u (M.stopped (outcome_says o)) (M.awaitin
 pub closed_awaits : (o : Outcome) (x : ConnectionState) (b : Bool) → b ≡ is End (state_says x) → b ≡ false → phase_says (Awaiting o) ≡ M.closed_with (outcome_says o) (state_says x)
 closed_awaits o x b e f = ap (λ u. cond u (M.stopped (outcome_says o)) (M.awaiting (outcome_says o))) (sym f ∙ e)
 
-pub unclosed_else : (k : ℕ) (o : Outcome) (x : ConnectionState) → (k ≡ 20 → ⊥) → phase_says (Stopped TransportError) ≡ not_closed k (outcome_says o) (state_says x)
-unclosed_else k o x h = ap (λ u. cond u (M.unclosed (outcome_says o) (state_says x)) (M.stopped M.transport_error)) (sym (ne_eqb k 20 h))
+-- the places of all refusals but the one of the state
+abbrev allowed : List ℕ
+allowed = 0 ∷ 1 ∷ 2 ∷ 3 ∷ 4 ∷ 5 ∷ 6 ∷ 7 ∷ 8 ∷ 10 ∷ 11 ∷ 12 ∷ 13 ∷ 14 ∷ 15 ∷ 16 ∷ []
+
+pub unclosed_else : (e : Refusal) (o : Outcome) (x : ConnectionState) → OneOf allowed (tag_of refusal_type e) → phase_says (Stopped TransportError) ≡ not_closed (number_of e) (outcome_says o) (state_says x)
+unclosed_else e o x h = ap (λ u. cond u (M.unclosed (outcome_says o) (state_says x)) (M.stopped M.transport_error)) (sym (ne_eqb (number_of e) 20 (other NotAllowed e allowed tt h)))
 
 -- in an arm that names the state
-pub unclosed_there : (k : ℕ) (o : Outcome) (p : Phase) (x y : ConnectionState) → k ≡ 20 → x ≡ y → phase_says p ≡ M.unclosed (outcome_says o) (state_says y) → phase_says p ≡ not_closed k (outcome_says o) (state_says x)
+pub unclosed_there : (k : Refusal) (o : Outcome) (p : Phase) (x y : ConnectionState) → k ≡ NotAllowed → x ≡ y → phase_says p ≡ M.unclosed (outcome_says o) (state_says y) → phase_says p ≡ not_closed (number_of k) (outcome_says o) (state_says x)
 unclosed_there k o p x y e q h =
-    h ∙ ap (λ z. M.unclosed (outcome_says o) (state_says z)) (sym q) ∙ ap (λ u. cond u (M.unclosed (outcome_says o) (state_says x)) (M.stopped M.transport_error)) (sym (eq-eqb k 20 e))
+    h ∙ ap (λ z. M.unclosed (outcome_says o) (state_says z)) (sym q) ∙ ap (λ u. not_closed (number_of u) (outcome_says o) (state_says x)) (sym e)
 
 -- in no other is a Close on its way, or was one
 elsewhere : (o : M.Outcome) (x : State) → is_one_of (ClosePipe ∷ CloseSent ∷ Discarding ∷ End ∷ []) x ≡ false → M.stopped M.illegal_state ≡ M.unclosed o x
@@ -90,10 +99,10 @@ elsewhere o CloseSent e = absurd (subst T e tt)
 elsewhere o Discarding e = absurd (subst T e tt)
 elsewhere o End e = absurd (subst T e tt)
 
-pub unclosed_elsewhere : (k : ℕ) (o : Outcome) (x : ConnectionState) → k ≡ 20 → OneOf (failing (is_one_of (ClosePipe ∷ CloseSent ∷ Discarding ∷ End ∷ [])) states) (tag_of state_type x) → phase_says (Stopped IllegalState) ≡ not_closed k (outcome_says o) (state_says x)
+pub unclosed_elsewhere : (k : Refusal) (o : Outcome) (x : ConnectionState) → k ≡ NotAllowed → OneOf (failing (is_one_of (ClosePipe ∷ CloseSent ∷ Discarding ∷ End ∷ [])) states) (tag_of state_type x) → phase_says (Stopped IllegalState) ≡ not_closed (number_of k) (outcome_says o) (state_says x)
 unclosed_elsewhere k o x e h =
     elsewhere (outcome_says o) (state_says x) (sym (fails (is_one_of (ClosePipe ∷ CloseSent ∷ Discarding ∷ End ∷ [])) x h))
-    ∙ ap (λ u. cond u (M.unclosed (outcome_says o) (state_says x)) (M.stopped M.transport_error)) (sym (eq-eqb k 20 e))
+    ∙ ap (λ u. not_closed (number_of u) (outcome_says o) (state_says x)) (sym e)
 
 -- ---- the states that a phase goes with
 
@@ -134,11 +143,5 @@ goes_stopped_in p o x b e q = q ∙ ap (λ u. goes_with (phase_says u) (state_sa
 -- ---- an engine that was kept
 
 module _ (p : Phase) (c : Connection) (x : ConnectionState) (b : Bool) (st : x ≡ c.local_state) (goes : b ≡ goes_with (phase_says p) (state_says x)) where
-  kept_as : (d : Bool) → b ≡ d → cond d (Is (engine_of p c)) Broken ≡ resumed_as p c
-  kept_as d q = ap (λ u. cond u (Is (engine_of p c)) Broken) (sym q ∙ goes ∙ ap (λ y. goes_with (phase_says p) (state_says y)) st)
-
-  pub resumed_fine : b ≡ true → Is (engine_of p c) ≡ resumed_as p c
-  resumed_fine q = kept_as true q
-
-  pub resumed_broken : b ≡ false → Broken ≡ resumed_as p c
-  resumed_broken q = kept_as false q
+  pub resumed_kept : cond b (Some (engine_of p c)) None ≡ resumed_as p c
+  resumed_kept = ap (λ u. cond u (Some (engine_of p c)) None) (goes ∙ ap (λ y. goes_with (phase_says p) (state_says y)) st)

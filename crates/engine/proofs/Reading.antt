@@ -3,13 +3,17 @@
 use mathlib.Core.Path.{◌≡◌, refl, sym, ◌∙◌, ap, subst}
 use mathlib.Core.Bool.{Bool, true, false, cond, ◌&&◌}
 use mathlib.Core.List.{List, [], ◌∷◌}
-use mathlib.Core.Option.{Option, none, some}
+use Rattle.std.specs.Prelude.{Option, None, Some, Result, Ok, Err}
 use Prim.Native.Nat.{ℕ}
 use lib.Dec.{eqb}
-use borrow.Author.Tests.{eq-eqb, ne_eqb}
-use types.Run.{OneOf, hit, miss}
+use borrow.Author.Tests.{ne_eqb}
+use types.Run.{OneOf, miss}
 use denote.Enum.Declared.{tag_of}
 use Rattle.octets.specs.Verdict.{Verdict, refuse, accept, and_then}
+use Rattle.octets.specs.Refusal.{number_of}
+use Rattle.octets.specs.declared.Refusal.{Refusal}
+use Rattle.octets.specs.declared.Refusal.TheVariants.{TooShort, OverReadingLimit, IllegalState as NotAllowed, NotFound as NotThere, NotImplemented as NotSupported}
+use Rattle.octets.specs.contracts.Refusal.{the_type as refusal_type}
 use Rattle.performatives.specs.Performative as P
 use Rattle.performatives.specs.declared.Performative.{Performative}
 use Rattle.performatives.specs.declared.Condition.{Condition}
@@ -19,7 +23,7 @@ use Rattle.performatives.specs.Answers.{performative_says}
 use Rattle.frame_decoder.specs.Frame.{FrameSaid, read_frame, frame_said}
 use Rattle.frame_decoder.specs.Frame as F
 use Rattle.frame_decoder.specs.declared.Frame as D
-use Rattle.frame_decoder.specs.declared.Frame.TheVariants.{Refused as NotRead, Empty, Body}
+use Rattle.frame_decoder.specs.declared.Frame.TheVariants.{Empty, Body}
 use Rattle.frame_decoder.specs.Answers.{frame_says, frame_answer}
 use Rattle.connection_state.specs.States as S
 use Rattle.connection_state.specs.States.{is}
@@ -33,16 +37,16 @@ use Rattle.endpoint.specs.declared.Role as E
 use Rattle.endpoint.specs.declared.Role.TheVariants.{Dialler, Listener}
 use Rattle.endpoint.specs.contracts.Role.{the_type as role_type}
 use Rattle.endpoint.specs.declared.FrameAnswer.{FrameAnswer}
-use Rattle.endpoint.specs.declared.FrameAnswer.TheVariants.{NothingToDo, Opened, Closed, Forward, Began, Refused}
+use Rattle.endpoint.specs.declared.FrameAnswer.TheVariants.{NothingToDo, Opened, Closed, Forward, Began}
 use Rattle.endpoint.specs.contracts.FrameAnswer.{the_type as answer_type}
-use Rattle.endpoint.specs.Answers.{role_says, answer_says}
+use Rattle.endpoint.specs.Answers.{role_says, came_says, answer_says}
 use Rattle.engine_model.specs.Engine as M
 use Rattle.connection_model.specs.Connection as K
 use Rattle.connection.specs.View as View
 use Rattle.connection.specs.declared.Connection.{Connection}
-use Rattle.engine_model.specs.Engine.{read_fault, closed_by, is_close, phase_read}
+use Rattle.engine_model.specs.Engine.{read_fault, closed_by, is_close, close_in, phase_read}
 use Rattle.engine.specs.declared.error.InnerError.{InnerError}
-use Rattle.engine.specs.declared.error.InnerError.TheVariants.{TransportError, IllegalState, NotFound, NotImplemented, RemoteSession}
+use Rattle.engine.specs.declared.error.InnerError.TheVariants.{TransportError, NotImplemented, RemoteSession}
 use Rattle.engine.specs.declared.Outcome as O
 use Rattle.engine.specs.declared.Outcome.TheVariants.{Fine, RemoteClosed, RemoteClosedWithError}
 use Rattle.engine.specs.declared.Phase.{Phase}
@@ -51,27 +55,26 @@ use Rattle.engine.specs.declared.Landed.{Landed}
 use Rattle.engine.specs.contracts.Phase.{the_type as phase_type}
 use Rattle.engine.specs.Reading.{answers_close}
 use Rattle.engine.specs.Answers.{phase_says, outcome_says, error_says}
-use Rattle.engine.specs.Promises.{consumed_for, close_of, awaited_by, LandedIn, landed_in, LeadsTo, Fails, Lands}
+use Rattle.engine.specs.Promises.{consumed_for, awaited_by, LandedIn, landed_in, LeadsTo, Fails, Lands}
 use Rattle.engine.proofs.Failing.{keeps_self}
+use Rattle.engine.proofs.Refusals.{other}
 
 -- ---- what a refusal leads to
 
-pub read_illegal : (role : E.Role) (k : ℕ) → k ≡ 20 → error_says IllegalState ≡ read_fault (role_says role) k
-read_illegal role k e = rw (eq-eqb k 20 e)
+pub read_dialler : (role : E.Role) (e : Refusal) → e ≡ NotSupported → OneOf (0 ∷ []) (tag_of role_type role) → error_says RemoteSession ≡ read_fault (role_says role) (number_of e)
+read_dialler Dialler e q o = rw q
+read_dialler Listener e q o = absurd (miss (0 ∷ []) 1 tt o)
 
-pub read_unknown : (role : E.Role) (k : ℕ) → (k ≡ 20 → ⊥) → k ≡ 24 → error_says NotFound ≡ read_fault (role_says role) k
-read_unknown role k n e = rw (ne_eqb k 20 n, eq-eqb k 24 e)
+pub read_listener : (role : E.Role) (e : Refusal) → e ≡ NotSupported → OneOf (1 ∷ []) (tag_of role_type role) → error_says NotImplemented ≡ read_fault (role_says role) (number_of e)
+read_listener Dialler e q o = absurd (miss (1 ∷ []) 0 tt o)
+read_listener Listener e q o = rw q
 
-pub read_dialler : (role : E.Role) (k : ℕ) → (k ≡ 20 → ⊥) → (k ≡ 24 → ⊥) → k ≡ 25 → OneOf (0 ∷ []) (tag_of role_type role) → error_says RemoteSession ≡ read_fault (role_says role) k
-read_dialler Dialler k n m e o = rw (ne_eqb k 20 n, ne_eqb k 24 m, eq-eqb k 25 e)
-read_dialler Listener k n m e o = absurd (miss (0 ∷ []) 1 tt o)
+-- the places of those that no arm of `incoming_error` names
+abbrev unnamed : List ℕ
+unnamed = 0 ∷ 1 ∷ 2 ∷ 3 ∷ 4 ∷ 5 ∷ 6 ∷ 7 ∷ 8 ∷ 10 ∷ 11 ∷ 12 ∷ 15 ∷ 16 ∷ []
 
-pub read_listener : (role : E.Role) (k : ℕ) → (k ≡ 20 → ⊥) → (k ≡ 24 → ⊥) → k ≡ 25 → OneOf (1 ∷ []) (tag_of role_type role) → error_says NotImplemented ≡ read_fault (role_says role) k
-read_listener Dialler k n m e o = absurd (miss (1 ∷ []) 0 tt o)
-read_listener Listener k n m e o = rw (ne_eqb k 20 n, ne_eqb k 24 m, eq-eqb k 25 e)
-
-pub read_transport : (role : E.Role) (k : ℕ) → (k ≡ 20 → ⊥) → (k ≡ 24 → ⊥) → (k ≡ 25 → ⊥) → error_says TransportError ≡ read_fault (role_says role) k
-read_transport role k n m l = rw (ne_eqb k 20 n, ne_eqb k 24 m, ne_eqb k 25 l)
+pub read_transport : (role : E.Role) (e : Refusal) → OneOf unnamed (tag_of refusal_type e) → error_says TransportError ≡ read_fault (role_says role) (number_of e)
+read_transport role e o = rw (ne_eqb (number_of e) 20 (other NotAllowed e unnamed tt o), ne_eqb (number_of e) 24 (other NotThere e unnamed tt o), ne_eqb (number_of e) 25 (other NotSupported e unnamed tt o))
 
 -- ---- who closed
 
@@ -91,27 +94,29 @@ said_close (refuse k) = false
 said_close (accept f) = code_close f.content
   where
     code_close : Option P.Said → Bool
-    code_close none = false
-    code_close (some p) = eqb p.code 24
+    code_close None = false
+    code_close (Some p) = eqb p.code 24
 
 close_said : (v : Verdict (F.Frame × Option P.Performative)) → said_close (and_then v (λ r. accept (frame_said r))) ≡ is_close v
 unfolding and_then
 close_said (refuse k) = refl
-close_said (accept (f, none)) = refl
-close_said (accept (f, some p)) = refl
+close_said (accept (f, None)) = refl
+close_said (accept (f, Some p)) = refl
 
-module _ (limit highest : ℕ) (s : List ℕ) (f : D.Frame) (e : frame_says f ≡ frame_answer limit highest s) where
+module _ (limit highest : ℕ) (s : List ℕ) (f : Result D.Frame Refusal) (e : frame_says f ≡ frame_answer limit highest s) where
   close_is : said_close (frame_says f) ≡ is_close (read_frame limit highest s)
   unfolding frame_answer
   close_is = ap said_close e ∙ close_said (read_frame limit highest s)
 
-  none_said : (g : D.Frame) → ((channel size from : ℕ) (p : Performative) (end : ℕ) → g ≡ Body channel size from p end → ⊥) → false ≡ said_close (frame_says g)
-  none_said (NotRead k) o = refl
+  pub close_unread : (k : Refusal) → f ≡ Err k → false ≡ is_close (read_frame limit highest s)
+  close_unread k q = ap (λ g. said_close (frame_says g)) (sym q) ∙ close_is
+
+  none_said : (g : D.Frame) → ((channel size from : ℕ) (p : Performative) (end : ℕ) → g ≡ Body channel size from p end → ⊥) → false ≡ said_close (frame_says (Ok g))
   none_said (Empty channel size from) o = refl
   none_said (Body channel size from p end) o = absurd (o channel size from p end refl)
 
-  pub close_none : ((channel size from : ℕ) (p : Performative) (end : ℕ) → f ≡ Body channel size from p end → ⊥) → false ≡ is_close (read_frame limit highest s)
-  close_none o = none_said f o ∙ close_is
+  pub close_none : (g : D.Frame) → f ≡ Ok g → ((channel size from : ℕ) (p : Performative) (end : ℕ) → g ≡ Body channel size from p end → ⊥) → false ≡ is_close (read_frame limit highest s)
+  close_none g q o = none_said g o ∙ ap (λ u. said_close (frame_says u)) (sym q) ∙ close_is
 
   close_code : (p : Performative) → OneOf (8 ∷ []) (tag_of performative_type p) → true ≡ eqb (performative_says p).0 24
   close_code (Open a b c) o = absurd (miss (8 ∷ []) 0 tt o)
@@ -124,7 +129,7 @@ module _ (limit highest : ℕ) (s : List ℕ) (f : D.Frame) (e : frame_says f �
   close_code (End a) o = absurd (miss (8 ∷ []) 7 tt o)
   close_code (Close a) o = refl
 
-  other_code : (p : Performative) → ((x : Condition) → p ≡ Close x → ⊥) → false ≡ eqb (performative_says p).0 24
+  other_code : (p : Performative) → ((x : Option Condition) → p ≡ Close x → ⊥) → false ≡ eqb (performative_says p).0 24
   other_code (Open a b c) o = refl
   other_code (Begin a) o = refl
   other_code Attach o = refl
@@ -135,94 +140,79 @@ module _ (limit highest : ℕ) (s : List ℕ) (f : D.Frame) (e : frame_says f �
   other_code (End a) o = refl
   other_code (Close a) o = absurd (o a refl)
 
-  pub close_body_is : (channel size from end : ℕ) (p : Performative) → f ≡ Body channel size from p end → OneOf (8 ∷ []) (tag_of performative_type p) → true ≡ is_close (read_frame limit highest s)
-  close_body_is channel size from end p q o = close_code p o ∙ ap (λ g. said_close (frame_says g)) (sym q) ∙ close_is
+  pub close_body_is : (g : D.Frame) → f ≡ Ok g → (channel size from end : ℕ) (p : Performative) → g ≡ Body channel size from p end → OneOf (8 ∷ []) (tag_of performative_type p) → true ≡ is_close (read_frame limit highest s)
+  close_body_is g is channel size from end p q o = close_code p o ∙ ap (λ u. said_close (frame_says u)) (sym (is ∙ ap (λ u. Ok u) q)) ∙ close_is
 
-  pub other_body : (channel size from end : ℕ) (p : Performative) → f ≡ Body channel size from p end → ((x : Condition) → p ≡ Close x → ⊥) → false ≡ is_close (read_frame limit highest s)
-  other_body channel size from end p q o = other_code p o ∙ ap (λ g. said_close (frame_says g)) (sym q) ∙ close_is
+  pub other_body : (g : D.Frame) → f ≡ Ok g → (channel size from end : ℕ) (p : Performative) → g ≡ Body channel size from p end → ((x : Option Condition) → p ≡ Close x → ⊥) → false ≡ is_close (read_frame limit highest s)
+  other_body g is channel size from end p q o = other_code p o ∙ ap (λ u. said_close (frame_says u)) (sym (is ∙ ap (λ u. Ok u) q)) ∙ close_is
 
 -- ---- what it consumes
 
-pub consumes_all : (a : FrameAnswer) (size : ℕ) → OneOf (0 ∷ 1 ∷ 2 ∷ 3 ∷ 4 ∷ []) (tag_of answer_type a) → size ≡ consumed_for (answer_says a) size
-consumes_all (NothingToDo n) size o = refl
-consumes_all (Opened n idle) size o = refl
-consumes_all (Closed n error) size o = refl
-consumes_all (Forward n code h from len) size o = refl
-consumes_all (Began n ch h from len) size o = refl
-consumes_all (Refused k) size o = absurd (miss (0 ∷ 1 ∷ 2 ∷ 3 ∷ 4 ∷ []) 5 tt o)
+pub consumes_all : (a : Result FrameAnswer Refusal) (x : FrameAnswer) (size : ℕ) → a ≡ Ok x → size ≡ consumed_for (answer_says a) size
+consumes_all a x size q = rw q
 
-module _ (a : FrameAnswer) (size k : ℕ) (q : a ≡ Refused k) where
-  pub consumes_3 : k ≡ 3 → 0 ≡ consumed_for (answer_says a) size
-  consumes_3 e = rw (q, eq-eqb k 3 e)
+-- the places of all refusals but those of a length that is not to be trusted
+abbrev trusted : List ℕ
+trusted = 0 ∷ 1 ∷ 4 ∷ 5 ∷ 6 ∷ 7 ∷ 8 ∷ 9 ∷ 10 ∷ 11 ∷ 12 ∷ 13 ∷ 14 ∷ 15 ∷ 16 ∷ []
 
-  pub consumes_4 : (k ≡ 3 → ⊥) → k ≡ 4 → 0 ≡ consumed_for (answer_says a) size
-  consumes_4 n e = rw (q, ne_eqb k 3 n, eq-eqb k 4 e)
+module _ (a : Result FrameAnswer Refusal) (size : ℕ) (k : Refusal) (q : a ≡ Err k) where
+  pub consumes_none : (x : Refusal) → k ≡ x → 0 ≡ consumed_for (refuse (number_of x)) size → 0 ≡ consumed_for (answer_says a) size
+  consumes_none x e p = rw (q, e) p
 
-  pub consumes_size : (k ≡ 3 → ⊥) → (k ≡ 4 → ⊥) → size ≡ consumed_for (answer_says a) size
-  consumes_size n m = rw (q, ne_eqb k 3 n, ne_eqb k 4 m)
+  pub consumes_size : OneOf trusted (tag_of refusal_type k) → size ≡ consumed_for (answer_says a) size
+  consumes_size o = rw (q, ne_eqb (number_of k) 3 (other TooShort k trusted tt o), ne_eqb (number_of k) 4 (other OverReadingLimit k trusted tt o))
 
 -- ---- phases after a read
 
-pub phase_closed : (a : FrameAnswer) (n : ℕ) (error : Bool) (x y : ConnectionState) (o : O.Outcome) → a ≡ Closed n error → outcome_says o ≡ closed_by M.fine (state_says x) error → phase_says (Stopped o) ≡ phase_read (close_of (answer_says a)) (state_says x) (state_says y)
-phase_closed a n error x y o q e = ap M.stopped e ∙ ap (λ u. phase_read (close_of (answer_says u)) (state_says x) (state_says y)) (sym q)
+pub phase_closed : (a : FrameAnswer) (n : ℕ) (error : Bool) (x y : ConnectionState) (o : O.Outcome) → a ≡ Closed n error → outcome_says o ≡ closed_by M.fine (state_says x) error → phase_says (Stopped o) ≡ phase_read (close_in (came_says a)) (state_says x) (state_says y)
+phase_closed a n error x y o q e = ap M.stopped e ∙ ap (λ u. phase_read (close_in (came_says u)) (state_says x) (state_says y)) (sym q)
 
-settles_by : (a : FrameAnswer) (x y : S.State) → OneOf (0 ∷ 1 ∷ 3 ∷ 4 ∷ 5 ∷ []) (tag_of answer_type a) → M.settled y ≡ phase_read (close_of (answer_says a)) x y
+settles_by : (a : FrameAnswer) (x y : S.State) → OneOf (0 ∷ 1 ∷ 3 ∷ 4 ∷ []) (tag_of answer_type a) → M.settled y ≡ phase_read (close_in (came_says a)) x y
 settles_by (NothingToDo n) x y o = refl
 settles_by (Opened n idle) x y o = refl
-settles_by (Closed n error) x y o = absurd (miss (0 ∷ 1 ∷ 3 ∷ 4 ∷ 5 ∷ []) 2 tt o)
+settles_by (Closed n error) x y o = absurd (miss (0 ∷ 1 ∷ 3 ∷ 4 ∷ []) 2 tt o)
 settles_by (Forward n code h from len) x y o = refl
 settles_by (Began n ch h from len) x y o = refl
-settles_by (Refused k) x y o = refl
 
-pub phase_over : (a : FrameAnswer) (x y : ConnectionState) (b : Bool) → OneOf (0 ∷ 1 ∷ 3 ∷ 4 ∷ 5 ∷ []) (tag_of answer_type a) → b ≡ is S.End (state_says y) → b ≡ true → phase_says (Stopped Fine) ≡ phase_read (close_of (answer_says a)) (state_says x) (state_says y)
+pub phase_over : (a : FrameAnswer) (x y : ConnectionState) (b : Bool) → OneOf (0 ∷ 1 ∷ 3 ∷ 4 ∷ []) (tag_of answer_type a) → b ≡ is S.End (state_says y) → b ≡ true → phase_says (Stopped Fine) ≡ phase_read (close_in (came_says a)) (state_says x) (state_says y)
 phase_over a x y b o e t = ap (λ u. cond u (M.stopped M.fine) M.running) (sym t ∙ e) ∙ settles_by a (state_says x) (state_says y) o
 
-pub phase_on : (a : FrameAnswer) (x y : ConnectionState) (b : Bool) → OneOf (0 ∷ 1 ∷ 3 ∷ 4 ∷ 5 ∷ []) (tag_of answer_type a) → b ≡ is S.End (state_says y) → b ≡ false → phase_says Running ≡ phase_read (close_of (answer_says a)) (state_says x) (state_says y)
+pub phase_on : (a : FrameAnswer) (x y : ConnectionState) (b : Bool) → OneOf (0 ∷ 1 ∷ 3 ∷ 4 ∷ []) (tag_of answer_type a) → b ≡ is S.End (state_says y) → b ≡ false → phase_says Running ≡ phase_read (close_in (came_says a)) (state_says x) (state_says y)
 phase_on a x y b o e f = ap (λ u. cond u (M.stopped M.fine) M.running) (sym f ∙ e) ∙ settles_by a (state_says x) (state_says y) o
 
-module _ (kept : O.Outcome) (c : Connection) (a : FrameAnswer) where
-  abbrev awaits_by : FrameAnswer → M.Phase
+module _ (kept : O.Outcome) (c : Connection) (a : Result FrameAnswer Refusal) where
+  abbrev awaits_by : Result FrameAnswer Refusal → M.Phase
   awaits_by b = awaited_by (role_says c.endpoint.role) (outcome_says kept) (state_says c.local_state) (answer_says b)
 
   pub awaited_refused :
-      (k : ℕ) (role : E.Role) (error : InnerError) (o : O.Outcome) → a ≡ Refused k → role ≡ c.endpoint.role → error_says error ≡ read_fault (role_says role) k → outcome_says o ≡ M.outcome_of (error_says error)
+      (k : Refusal) (role : E.Role) (error : InnerError) (o : O.Outcome) → a ≡ Err k → role ≡ c.endpoint.role → error_says error ≡ read_fault (role_says role) (number_of k) → outcome_says o ≡ M.outcome_of (error_says error)
       → phase_says (Stopped o) ≡ awaits_by a
-  awaited_refused k role error o q r e w = ap M.stopped (w ∙ ap M.outcome_of (e ∙ ap (λ u. read_fault (role_says u) k) r)) ∙ ap awaits_by (sym q)
+  awaited_refused k role error o q r e w = ap M.stopped (w ∙ ap M.outcome_of (e ∙ ap (λ u. read_fault (role_says u) (number_of k)) r)) ∙ ap awaits_by (sym q)
 
-  pub awaited_closed :
-      (n : ℕ) (error : Bool) (x : ConnectionState) (o : O.Outcome) → a ≡ Closed n error → x ≡ c.local_state → outcome_says o ≡ closed_by (outcome_says kept) (state_says x) error → phase_says (Stopped o) ≡ awaits_by a
-  awaited_closed n error x o q s w = ap M.stopped (w ∙ ap (λ u. closed_by (outcome_says kept) (state_says u) error) s) ∙ ap awaits_by (sym q)
+  module _ (x : FrameAnswer) (q : a ≡ Ok x) where
+    pub awaited_closed :
+        (n : ℕ) (error : Bool) (y : ConnectionState) (o : O.Outcome) → x ≡ Closed n error → y ≡ c.local_state → outcome_says o ≡ closed_by (outcome_says kept) (state_says y) error → phase_says (Stopped o) ≡ awaits_by a
+    awaited_closed n error y o p s w = ap M.stopped (w ∙ ap (λ u. closed_by (outcome_says kept) (state_says u) error) s) ∙ ap awaits_by (sym (q ∙ ap (λ u. Ok u) p))
 
-awaits_by_lem : (o : M.Outcome) (role : K.Role) (x : S.State) (a : FrameAnswer) → OneOf (0 ∷ 1 ∷ 3 ∷ 4 ∷ []) (tag_of answer_type a) → M.awaiting o ≡ awaited_by role o x (answer_says a)
-awaits_by_lem o role x (NothingToDo n) h = refl
-awaits_by_lem o role x (Opened n idle) h = refl
-awaits_by_lem o role x (Closed n error) h = absurd (miss (0 ∷ 1 ∷ 3 ∷ 4 ∷ []) 2 tt h)
-awaits_by_lem o role x (Forward n code handle from len) h = refl
-awaits_by_lem o role x (Began n ch handle from len) h = refl
-awaits_by_lem o role x (Refused k) h = absurd (miss (0 ∷ 1 ∷ 3 ∷ 4 ∷ []) 5 tt h)
-
-not_both : (a : FrameAnswer) → OneOf (0 ∷ 1 ∷ 2 ∷ 3 ∷ 4 ∷ []) (tag_of answer_type a) → OneOf (0 ∷ 1 ∷ 3 ∷ 4 ∷ 5 ∷ []) (tag_of answer_type a) → OneOf (0 ∷ 1 ∷ 3 ∷ 4 ∷ []) (tag_of answer_type a)
-not_both (NothingToDo n) o h = hit (0 ∷ 1 ∷ 3 ∷ 4 ∷ []) 0 tt
-not_both (Opened n idle) o h = hit (0 ∷ 1 ∷ 3 ∷ 4 ∷ []) 1 tt
-not_both (Closed n error) o h = absurd (miss (0 ∷ 1 ∷ 3 ∷ 4 ∷ 5 ∷ []) 2 tt h)
-not_both (Forward n code handle from len) o h = hit (0 ∷ 1 ∷ 3 ∷ 4 ∷ []) 3 tt
-not_both (Began n ch handle from len) o h = hit (0 ∷ 1 ∷ 3 ∷ 4 ∷ []) 4 tt
-not_both (Refused k) o h = absurd (miss (0 ∷ 1 ∷ 2 ∷ 3 ∷ 4 ∷ []) 5 tt o)
-
-pub awaited_on :
-    (kept : O.Outcome) (c : Connection) (a : FrameAnswer) → OneOf (0 ∷ 1 ∷ 2 ∷ 3 ∷ 4 ∷ []) (tag_of answer_type a) → OneOf (0 ∷ 1 ∷ 3 ∷ 4 ∷ 5 ∷ []) (tag_of answer_type a)
-    → phase_says (Awaiting kept) ≡ awaited_by (role_says c.endpoint.role) (outcome_says kept) (state_says c.local_state) (answer_says a)
-awaited_on kept c a o h = awaits_by_lem (outcome_says kept) (role_says c.endpoint.role) (state_says c.local_state) a (not_both a o h)
+    pub awaited_on : OneOf (0 ∷ 1 ∷ 3 ∷ 4 ∷ []) (tag_of answer_type x) → phase_says (Awaiting kept) ≡ awaits_by a
+    awaited_on h = awaits_by_lem x h ∙ ap awaits_by (sym q)
+      where
+        awaits_by_lem : (b : FrameAnswer) → OneOf (0 ∷ 1 ∷ 3 ∷ 4 ∷ []) (tag_of answer_type b) → phase_says (Awaiting kept) ≡ awaits_by (Ok b)
+        awaits_by_lem (NothingToDo n) h = refl
+        awaits_by_lem (Opened n idle) h = refl
+        awaits_by_lem (Closed n error) h = absurd (miss (0 ∷ 1 ∷ 3 ∷ 4 ∷ []) 2 tt h)
+        awaits_by_lem (Forward n code handle from len) h = refl
+        awaits_by_lem (Began n ch handle from len) h = refl
 
 -- ---- where a read leads
 
 module _ (x : S.State) (c : Connection) (n : ℕ) (out : List ℕ) where
   -- whatever the connection is lent
-  abbrev Leads : FrameAnswer → List ℕ → Landed → Type 0
+  abbrev Leads : Result FrameAnswer Refusal → List ℕ → Landed → Type 0
   Leads a out' l = (t id : List ℕ) → LeadsTo x (answer_says a) (View.whole c t id) n out out' (landed_in l t id)
 
   pub leads_failing :
-      (a : FrameAnswer) (k : ℕ) (role : E.Role) (error : InnerError) (out' : List ℕ) (l : Landed) → a ≡ Refused k → role ≡ c.endpoint.role → error_says error ≡ read_fault (role_says role) k
+      (a : Result FrameAnswer Refusal) (k : Refusal) (role : E.Role) (error : InnerError) (out' : List ℕ) (l : Landed) → a ≡ Err k → role ≡ c.endpoint.role → error_says error ≡ read_fault (role_says role) (number_of k)
       → ((t id : List ℕ) → Fails (error_says error) (View.whole c t id) n out out' (landed_in l t id)) → Leads a out' l
   leads_failing a k role error out' l q r e f t id =
       let w = View.whole c t id in
@@ -230,29 +220,20 @@ module _ (x : S.State) (c : Connection) (n : ℕ) (out : List ℕ) where
         leads_keeps = (f t id).fails_keeps;
         leads_to = λ z bytes lent m o y y'.
             subst (λ u. Lands (M.read_to (View.role_of w) (View.settings_of w) lent x (answer_says u) (View.view_of w) bytes) lent out' (landed_in l t id)) (sym q)
-            (subst (λ u. Lands (M.fail (View.role_of w) (View.settings_of w) u (View.view_of w) bytes lent) lent out' (landed_in l t id)) (e ∙ ap (λ u. read_fault (role_says u) k) r) ((f t id).fails z bytes lent m o y y'));
+            (subst (λ u. Lands (M.fail (View.role_of w) (View.settings_of w) u (View.view_of w) bytes lent) lent out' (landed_in l t id)) (e ∙ ap (λ u. read_fault (role_says u) (number_of k)) r) ((f t id).fails z bytes lent m o y y'));
       }
 
-  taken_is : (a : FrameAnswer) → ((k : ℕ) → a ≡ Refused k → ⊥) → (b : K.Answer) × (answer_says a ≡ accept b)
-  taken_is (NothingToDo m) o = (K.nothing_to_do m, refl)
-  taken_is (Opened m idle) o = (K.opened m idle, refl)
-  taken_is (Closed m error) o = (K.closed m error, refl)
-  taken_is (Forward m code h from len) o = (K.forward m code h from len, refl)
-  taken_is (Began m ch h from len) o = (K.began m ch h from len, refl)
-  taken_is (Refused k) o = absurd (o k refl)
-
   pub leads_on :
-      (a : FrameAnswer) (y : ConnectionState) (p : Phase) → ((k : ℕ) → a ≡ Refused k → ⊥) → y ≡ c.local_state → phase_says p ≡ phase_read (close_of (answer_says a)) x (state_says y)
+      (a : Result FrameAnswer Refusal) (b : FrameAnswer) (y : ConnectionState) (p : Phase) → a ≡ Ok b → y ≡ c.local_state → phase_says p ≡ phase_read (close_in (came_says b)) x (state_says y)
       → Leads a out (record { phase = p; written = n; connection = c })
-  leads_on a y p o s e t id =
-      let b = taken_is a o in
+  leads_on a b y p o s e t id =
       let w = View.whole c t id in
       let l : LandedIn = record { phase = p; written = n; connection = w } in
       record {
         leads_keeps = keeps_self w;
         leads_to = λ z bytes lent m q r r'.
-            subst (λ u. Lands (M.read_to (View.role_of w) (View.settings_of w) lent x u (View.view_of w) bytes) lent out l) (sym b.1) (record {
-              lands_phase = e ∙ (λ i. phase_read (close_of (b.1 i)) x (state_says (s i)));
+            subst (λ u. Lands (M.read_to (View.role_of w) (View.settings_of w) lent x (answer_says u) (View.view_of w) bytes) lent out l) (sym o) (record {
+              lands_phase = e ∙ (λ i. phase_read (close_in (came_says b)) x (state_says (s i)));
               lands_connection = refl;
               lands_count = m;
               lands_output = q;
@@ -261,19 +242,11 @@ module _ (x : S.State) (c : Connection) (n : ℕ) (out : List ℕ) where
 
 -- ---- a Close that is answered
 
-pub answered_refused : (role : E.Role) (a : FrameAnswer) (x y : S.State) (k : ℕ) (error : InnerError) (o : O.Outcome) → a ≡ Refused k → error_says error ≡ read_fault (role_says role) k → outcome_says o ≡ M.outcome_of (error_says error) → phase_says (Stopped o) ≡ M.phase_answered (role_says role) x (answer_says a) y
+pub answered_refused : (role : E.Role) (a : Result FrameAnswer Refusal) (x y : S.State) (k : Refusal) (error : InnerError) (o : O.Outcome) → a ≡ Err k → error_says error ≡ read_fault (role_says role) (number_of k) → outcome_says o ≡ M.outcome_of (error_says error) → phase_says (Stopped o) ≡ M.phase_answered (role_says role) x (answer_says a) y
 answered_refused role a x y k error o q e w = ap M.stopped (w ∙ ap M.outcome_of e) ∙ ap (λ u. M.phase_answered (role_says role) x (answer_says u) y) (sym q)
 
-read_answered : (role : K.Role) (x y : S.State) (a : FrameAnswer) → OneOf (0 ∷ 1 ∷ 2 ∷ 3 ∷ 4 ∷ []) (tag_of answer_type a) → phase_read (close_of (answer_says a)) x y ≡ M.phase_answered role x (answer_says a) y
-read_answered role x y (NothingToDo n) o = refl
-read_answered role x y (Opened n idle) o = refl
-read_answered role x y (Closed n error) o = refl
-read_answered role x y (Forward n code h from len) o = refl
-read_answered role x y (Began n ch h from len) o = refl
-read_answered role x y (Refused k) o = absurd (miss (0 ∷ 1 ∷ 2 ∷ 3 ∷ 4 ∷ []) 5 tt o)
-
-pub answered_taken : (role : E.Role) (a : FrameAnswer) (x y : S.State) (p : Phase) → OneOf (0 ∷ 1 ∷ 2 ∷ 3 ∷ 4 ∷ []) (tag_of answer_type a) → phase_says p ≡ phase_read (close_of (answer_says a)) x y → phase_says p ≡ M.phase_answered (role_says role) x (answer_says a) y
-answered_taken role a x y p o e = e ∙ read_answered (role_says role) x y a o
+pub answered_taken : (role : E.Role) (a : Result FrameAnswer Refusal) (b : FrameAnswer) (x y : S.State) (p : Phase) → a ≡ Ok b → phase_says p ≡ phase_read (close_in (came_says b)) x y → phase_says p ≡ M.phase_answered (role_says role) x (answer_says a) y
+answered_taken role a b x y p q e = e ∙ ap (λ u. M.phase_answered (role_says role) x (answer_says u) y) (sym q)
 
 -- ---- whether it is to be answered
 

@@ -3,21 +3,18 @@
 use mathlib.Core.Path.{◌≡◌, refl, sym, ◌∙◌, ap, subst}
 use mathlib.Core.Bool.{Bool, true, false, not, ◌&&◌}
 use mathlib.Core.List.{List, [], ◌∷◌}
-use mathlib.Core.Option.{some}
+use Rattle.std.specs.Prelude.{Some, Result, Ok, Err}
 use Prim.Native.Nat.{ℕ, ◌+◌, ◌*◌}
 use native.Mathlib.Omega.{arith}
 use lib.ListN.{length}
 use lib.Dec.{leb}
-use types.Run.{OneOf, miss}
-use denote.Enum.Declared.{tag_of}
 use Rattle.octets.specs.Verdict.{Verdict, refuse, accept, and_then}
 use Rattle.octets.specs.Output.{room_for}
+use Rattle.octets.specs.Refusal.{number_of, judged}
+use Rattle.octets.specs.declared.Refusal.{Refusal}
+use Rattle.octets.specs.declared.Refusal.TheVariants.{BytesMissing, OutOfBounds, NoRoom, IllegalState}
 use Rattle.octets.proofs.Laws.{require_on, require_off, then_accept, then_refuse}
 use Rattle.frame_decoder.specs.Frame.{size_of, read_frame, session_frames}
-use Rattle.frame_decoder.specs.declared.Frames.{Frames}
-use Rattle.frame_decoder.specs.declared.Frames.TheVariants.{Are, Refused as NotAll}
-use Rattle.frame_decoder.specs.contracts.Frames.{the_type as frames_type}
-use Rattle.frame_decoder.specs.Answers.{frames_say, refusal_in}
 use Rattle.frame_encoder.specs.Frames.{Settings}
 use Rattle.connection_state.specs.States.{State, CloseReceived, is}
 use Rattle.connection_state.specs.Answers.{state_says}
@@ -37,7 +34,6 @@ use Rattle.engine.specs.declared.OnIncoming.{OnIncoming}
 use Rattle.engine.specs.declared.Outcome.{Outcome}
 use Rattle.engine.specs.declared.Phase.{Phase}
 use Rattle.engine.specs.declared.Phase.TheVariants.{Running, Awaiting, Stopped}
-use Rattle.engine.specs.declared.Running.TheVariants.{Refused as NotRun}
 use Rattle.engine.specs.Answers.{Whole, whole, connection_in, role_of, settings_of, view_of, Sound, phase_says, outcome_says, goes_on, reply_says}
 use Rattle.engine.specs.Promises.{Does, DoesIn, LandedIn, landed_in, Lands, LeadsTo, awaited_by, consumed_for}
 use Rattle.engine.specs.Reading.{Answered, Took, Taken, answers_close, read_by, lacks_bytes}
@@ -119,41 +115,41 @@ module _ (e : ConnectionEngine) (t s : List ℕ) (h : ℕ) (w out : List ℕ) wh
   event = incoming s h w out
 
   abbrev replies : OnIncoming → Verdict M.Reply
-  replies r = reply_says r.running r.consumed r.written (some (answer_says r.answer))
+  replies r = reply_says r.running r.consumed r.written (Some (answer_says r.answer))
 
   -- what the event is answered and leaves
   abbrev Comes : OnIncoming → List ℕ → List ℕ → Type 0
   Comes r out' t' = (id : List ℕ) → DoesIn event (whole e t id) (replies r) out' (whole r.engine t' id)
 
-  abbrev NotTaken : ℕ → OnIncoming → Type 0
-  NotTaken k r = (r.running ≡ NotRun k) × (r.engine ≡ e)
+  abbrev NotTaken : Refusal → OnIncoming → Type 0
+  NotTaken k r = (r.running ≡ Err k) × (r.engine ≡ e)
 
-  no_reply : (r : OnIncoming) (k : ℕ) → NotTaken k r → replies r ≡ refuse k
-  no_reply r k q = ap (λ u. reply_says u r.consumed r.written (some (answer_says r.answer))) q.0
+  no_reply : (r : OnIncoming) (k : Refusal) → NotTaken k r → replies r ≡ refuse (number_of k)
+  no_reply r k q = ap (λ u. reply_says u r.consumed r.written (Some (answer_says r.answer))) q.0
 
-  refuses_so : (r : OnIncoming) (k : ℕ) (id : List ℕ) → (Sound (whole e t id) → comes_to (whole e t id) event ≡ refuse k) → NotTaken k r → Does event (whole e t id) (replies r) out (whole r.engine t id)
-  refuses_so r k id j q = refuses event (whole e t id) (whole r.engine t id) k _ out j (no_reply r k q) (ap (λ x. whole x t id) q.1) refl
+  refuses_so : (r : OnIncoming) (k : Refusal) (id : List ℕ) → (Sound (whole e t id) → comes_to (whole e t id) event ≡ refuse (number_of k)) → NotTaken k r → Does event (whole e t id) (replies r) out (whole r.engine t id)
+  refuses_so r k id j q = refuses event (whole e t id) (whole r.engine t id) (number_of k) _ out j (no_reply r k q) (ap (λ x. whole x t id) q.1) refl
 
   module _ (short : Bool) (sh : short ≡ not (leb (16384 + 2 * length w) (length out))) where
-    pub incoming_9 : (r : OnIncoming) → short ≡ true → NotTaken 9 r → Comes r out t
+    pub incoming_9 : (r : OnIncoming) → short ≡ true → NotTaken NoRoom r → Comes r out t
     incoming_9 r y q id =
         let none_left = room_is (length w) out short sh y in
-        roomless_does event (whole e t id) (whole r.engine t id) _ out none_left (no_reply r 9 q) (refuses_so r 9 id (λ z. require_off 9 _ _ none_left) q)
+        roomless_does event (whole e t id) (whole r.engine t id) _ out none_left (no_reply r NoRoom q) (refuses_so r NoRoom id (λ z. require_off 9 _ _ none_left) q)
 
     module _ (room : short ≡ false) (v : Bool) (cover : (id : List ℕ) → v ≡ C.is_covered (View.whole e.connection t id)) where
       has : room_for (length w) out ≡ true
       has = room_has (length w) out short sh room
 
-      pub incoming_8 : (r : OnIncoming) → not v ≡ true → NotTaken 8 r → Comes r out t
+      pub incoming_8 : (r : OnIncoming) → not v ≡ true → NotTaken OutOfBounds r → Comes r out t
       incoming_8 r y q id =
-          uncovered_refuses event (whole e t id) (whole r.engine t id) _ out has (uncovered_by (View.whole e.connection t id) v (cover id) y) (no_reply r 8 q) (ap (λ x. whole x t id) q.1) refl
+          uncovered_refuses event (whole e t id) (whole r.engine t id) _ out has (uncovered_by (View.whole e.connection t id) v (cover id) y) (no_reply r OutOfBounds q) (ap (λ x. whole x t id) q.1) refl
 
       module _ (long : not v ≡ false) (b : Bool) (st : b ≡ is_stopped (phase_says e.phase)) where
         in_them : (out' id : List ℕ) (r : Verdict M.Reply) (d : Whole) → Does event (whole e t id) r out' d → DoesIn event (whole e t id) r out' d
         in_them out' id r d p = covered_does event (whole e t id) d r out' has (covered_by (View.whole e.connection t id) v (cover id) long) p
 
-        pub incoming_20 : (r : OnIncoming) → b ≡ true → NotTaken 20 r → Comes r out t
-        incoming_20 r y q id = in_them out id _ _ (refuses_so r 20 id (λ z. require_on 9 _ _ has ∙ require_off 20 _ _ (ap not (sym st ∙ y))) q)
+        pub incoming_20 : (r : OnIncoming) → b ≡ true → NotTaken IllegalState r → Comes r out t
+        incoming_20 r y q id = in_them out id _ _ (refuses_so r IllegalState id (λ z. require_on 9 _ _ has ∙ require_off 20 _ _ (ap not (sym st ∙ y))) q)
 
         module _ (goes : b ≡ false) (limit : ℕ) (li : limit ≡ e.connection.endpoint.reading_limit) (m : Bool) (ms : m ≡ lacks_bytes limit s) where
           abbrev rule : List ℕ → Verdict K.Outcome
@@ -162,10 +158,10 @@ module _ (e : ConnectionEngine) (t s : List ℕ) (h : ℕ) (w out : List ℕ) wh
           misses : (id : List ℕ) → m ≡ lacks (rule id)
           misses id = ms ∙ ap (λ l. lacks_bytes l s) li ∙ sym (missing_is (role_of (whole e t id)) (settings_of (whole e t id)) (view_of (whole e t id)).connection s h)
 
-          pub incoming_1 : (r : OnIncoming) → m ≡ true → NotTaken 1 r → Comes r out t
-          incoming_1 r y q id = in_them out id _ _ (refuses_so r 1 id (λ z. require_on 9 _ _ has ∙ require_on 20 _ _ (ap not (sym st ∙ goes)) ∙ require_off 1 _ _ (ap not (sym (misses id) ∙ y))) q)
+          pub incoming_1 : (r : OnIncoming) → m ≡ true → NotTaken BytesMissing r → Comes r out t
+          incoming_1 r y q id = in_them out id _ _ (refuses_so r BytesMissing id (λ z. require_on 9 _ _ has ∙ require_on 20 _ _ (ap not (sym st ∙ goes)) ∙ require_off 1 _ _ (ap not (sym (misses id) ∙ y))) q)
 
-          module _ (there : m ≡ false) (f : Frames) (highest : ℕ) (hi : highest ≡ e.connection.endpoint.local_open.channel_max) (fs : frames_say f ≡ session_frames highest w) where
+          module _ (there : m ≡ false) (f : Result ℕ Refusal) (highest : ℕ) (hi : highest ≡ e.connection.endpoint.local_open.channel_max) (fs : judged f ≡ session_frames highest w) where
             module _ (id : List ℕ) where
               abbrev W : Whole
               W = whole e t id
@@ -173,24 +169,20 @@ module _ (e : ConnectionEngine) (t s : List ℕ) (h : ℕ) (w out : List ℕ) wh
               abbrev close : Bool
               close = is_close (read_frame (view_of W).connection.reading_limit (settings_of W).channel_max s)
 
-              frames_are : session_frames (settings_of W).channel_max w ≡ frames_say f
+              frames_are : session_frames (settings_of W).channel_max w ≡ judged f
               frames_are = ap (λ x. session_frames x w) (sym hi) ∙ sym fs
 
               abbrev tail : ℕ → Verdict M.Result
-              tail n = results (M.reads (role_of W) (settings_of W) (frames_in n w) out close (rule id) (view_of W)) (consumed_of s (answered (rule id))) (some (answered (rule id)))
+              tail n = results (M.reads (role_of W) (settings_of W) (frames_in n w) out close (rule id) (view_of W)) (consumed_of s (answered (rule id))) (Some (answered (rule id)))
 
-              comes : comes_to W event ≡ and_then (frames_say f) tail
+              comes : comes_to W event ≡ and_then (judged f) tail
               comes = require_on 9 _ _ has ∙ require_on 20 _ _ (ap not (sym st ∙ goes)) ∙ require_on 1 _ _ (ap not (sym (misses id) ∙ there)) ∙ ap (λ x. and_then x tail) frames_are
 
-            refused_by_lem : (g : Frames) (k : ℕ) → OneOf (1 ∷ []) (tag_of frames_type g) → k ≡ refusal_in (frames_say g) → frames_say g ≡ refuse k
-            refused_by_lem (Are n) k o q = absurd (miss (1 ∷ []) 0 tt o)
-            refused_by_lem (NotAll j) k o q = ap refuse (sym q)
-
-            pub incoming_waiting : (r : OnIncoming) (k : ℕ) → OneOf (1 ∷ []) (tag_of frames_type f) → k ≡ refusal_in (frames_say f) → NotTaken k r → Comes r out t
-            incoming_waiting r k o q g id = in_them out id _ _ (refuses_so r k id (λ z. comes id ∙ then_refuse _ (tail id) k (refused_by_lem f k o q)) g)
+            pub incoming_waiting : (r : OnIncoming) (k : Refusal) → f ≡ Err k → NotTaken k r → Comes r out t
+            incoming_waiting r k o g id = in_them out id _ _ (refuses_so r k id (λ z. comes id ∙ then_refuse _ (tail id) (number_of k) (ap judged o)) g)
 
             pub incoming_done :
-                (n : ℕ) (a : FrameAnswer) (after : Connection) (t₁ out' t₂ : List ℕ) (l : Landed) (size consumed : ℕ) (r : OnIncoming) → f ≡ Are n
+                (n : ℕ) (a : Result FrameAnswer Refusal) (after : Connection) (t₁ out' t₂ : List ℕ) (l : Landed) (size consumed : ℕ) (r : OnIncoming) → f ≡ Ok n
                 → ((id : List ℕ) → C.DoesIn (receive_frame s h) (View.whole e.connection t id) (answer_says a) [] (View.whole after t₁ id))
                 → ((u id : List ℕ) → Took (whole e u id) s (answer_says a) (View.whole after t₁ id) n w out out' (landed_in l t₂ id)) → size ≡ size_of s → consumed ≡ consumed_for (answer_says a) size
                 → Taken l a consumed r → Comes r out' t₂
@@ -199,21 +191,21 @@ module _ (e : ConnectionEngine) (t s : List ℕ) (h : ℕ) (w out : List ℕ) wh
                 let L = landed_in l t₂ id in
                 let k = keeps_of (receive_frame s h) (connection_in (W id)) D (answer_says a) [] (p id).does in
                 let says : Sound (W id) → answer_says a ≡ answered (rule id) = λ z. ap (λ x. x.answer) ((p id).does.meets z).draws in
-                let d : Does event (W id) (reply_says (goes_on l.phase) consumed l.written (some (answer_says a))) out' (engine_at L) =
+                let d : Does event (W id) (reply_says (Ok (goes_on l.phase)) consumed l.written (Some (answer_says a))) out' (engine_at L) =
                 lands_does event (W id) (M.reads (role_of (W id)) (settings_of (W id)) (frames_in n w) out (close id) (rule id) (view_of (W id)))
-                (consumed_of s (answered (rule id))) consumed (some (answered (rule id))) (some (answer_says a)) out' L
-                (λ z. comes id ∙ then_accept _ (tail id) n (ap frames_say q))
+                (consumed_of s (answered (rule id))) consumed (Some (answered (rule id))) (Some (answer_says a)) out' L
+                (λ z. comes id ∙ then_accept _ (tail id) n (ap judged q))
                 (λ z. co ∙ ap (consumed_for (answer_says a)) sz ∙ consumed_said s (answer_says a) ∙ ap (consumed_of s) (says z))
-                (λ z. ap some (says z))
+                (λ z. ap Some (says z))
                 (λ z.
                 let lv = ((p id).does.meets z).leaves in
                 let stn : is_stopped (phase_says e.phase) ≡ false = sym st ∙ goes in
                 subst (λ x. Lands x out out' L)
                 ((λ i. read_by (k.keeps_same.same_role i) (k.keeps_same.same_settings i) (frames_in n w) out (close id && is CloseReceived (lv i).state) (phase_says e.phase) (says z i) (lv i))
                 ∙ reads_is (role_of (W id)) (settings_of (W id)) (frames_in n w) out (close id) (rule id) (view_of (W id)).connection (phase_says e.phase) stn)
-                ((tk t id).took ((p id).does.meets z).sound stn (ap (λ x. session_frames x.channel_max w) k.keeps_same.same_settings ∙ frames_are id ∙ ap frames_say q) has))
+                ((tk t id).took ((p id).does.meets z).sound stn (ap (λ x. session_frames x.channel_max w) k.keeps_same.same_settings ∙ frames_are id ∙ ap judged q) has))
                 (keeps_on (connection_in (W id)) D L.connection k (tk t id).took_keeps) in
-                let x : replies r ≡ reply_says (goes_on l.phase) consumed l.written (some (answer_says a)) = λ i. reply_says (g.taken_running i) (g.taken_consumed i) (g.taken_written i) (some (answer_says (g.taken_answer i))) in
+                let x : replies r ≡ reply_says (Ok (goes_on l.phase)) consumed l.written (Some (answer_says a)) = λ i. reply_says (g.taken_running i) (g.taken_consumed i) (g.taken_written i) (Some (answer_says (g.taken_answer i))) in
                 in_them out' id _ _
                 (subst (λ u. Does event (W id) u out' (whole r.engine t₂ id)) (sym x)
-                (subst (λ u. Does event (W id) (reply_says (goes_on l.phase) consumed l.written (some (answer_says a))) out' (whole u t₂ id)) (sym g.taken_engine) d))
+                (subst (λ u. Does event (W id) (reply_says (Ok (goes_on l.phase)) consumed l.written (Some (answer_says a))) out' (whole u t₂ id)) (sym g.taken_engine) d))

@@ -3,30 +3,26 @@
 use mathlib.Core.Path.{◌≡◌, refl, sym, ◌∙◌, ap, subst}
 use mathlib.Core.Bool.{Bool, true, false, not}
 use mathlib.Core.List.{List, [], ◌∷◌}
-use mathlib.Core.Option.{Option, some}
+use Rattle.std.specs.Prelude.{Option, Some, Result, Ok, Err}
 use Prim.Native.Nat.{ℕ, ◌≤◌, ◌<◌}
 use native.Mathlib.Omega.{arith}
 use lib.ListN.{length}
 use Rattle.octets.specs.Verdict.{Verdict, refuse, accept, require, and_then}
 use Rattle.octets.specs.Output.{room_for, laid}
 use Rattle.octets.proofs.Laws.{room_yes, room_no, require_on, require_off, then_accept, then_refuse}
+use Rattle.octets.specs.Refusal.{number_of}
+use Rattle.octets.specs.declared.Refusal.{Refusal}
+use Rattle.octets.specs.declared.Refusal.TheVariants.{OutOfBounds, NoRoom, IllegalState}
 use Rattle.connection_model.specs.Connection as K
 use Rattle.connection_model.specs.Connection.{Answer, Call, apply}
+use Rattle.endpoint.specs.Answers.{allocate_says}
 use Rattle.endpoint.specs.Promises as E
 use Rattle.connection.specs.View as View
 use Rattle.connection.specs.Promises as C
 use Rattle.connection.specs.declared.Connection.{Connection}
-use types.Run.{OneOf, miss}
-use denote.Enum.Declared.{tag_of}
-use Rattle.connection.specs.View.{allocate_says, freed_says, tick_says}
-use Rattle.connection.specs.declared.AllocateAnswer.{AllocateAnswer}
-use Rattle.connection.specs.declared.AllocateAnswer.TheVariants.{Channel, Refused as NoChannel}
-use Rattle.connection.specs.contracts.AllocateAnswer.{the_type as allocate_type}
-use Rattle.connection.specs.declared.DeallocateAnswer.{DeallocateAnswer}
-use Rattle.connection.specs.declared.DeallocateAnswer.TheVariants.{Freed, Refused as NotFreed}
-use Rattle.connection.specs.contracts.DeallocateAnswer.{the_type as deallocate_type}
+use Rattle.connection.specs.View.{freed_says, tick_says}
 use Rattle.connection.specs.declared.TickAnswer.{TickAnswer}
-use Rattle.connection.specs.declared.TickAnswer.TheVariants.{Wrote, Stop as Idle, Refused as NotTicked}
+use Rattle.connection.specs.declared.TickAnswer.TheVariants.{Wrote, Stop as Idle}
 use Rattle.engine_model.specs.Engine as M
 use Rattle.engine_model.specs.Engine.{Event, Reply, well, lent, is_running, settled, ended_in, replied, landed, has_room}
 use Rattle.engine.specs.declared.ConnectionEngine.{ConnectionEngine}
@@ -36,7 +32,6 @@ use Rattle.engine.specs.declared.OnAllocate.{OnAllocate}
 use Rattle.engine.specs.declared.OnDeallocate.{OnDeallocate}
 use Rattle.engine.specs.declared.OnHeartbeat.{OnHeartbeat}
 use Rattle.engine.specs.declared.Running as R
-use Rattle.engine.specs.declared.Running.TheVariants.{Refused as NotRun}
 use Rattle.engine.specs.Answers.{Whole, whole, connection_in, tick_count, settings_of, view_of, phase_says, goes_on, reply, reply_says}
 use Rattle.engine.specs.Promises.{Does, DoesIn, Settles}
 use Rattle.engine.proofs.Counted.{written_in}
@@ -45,12 +40,12 @@ use Rattle.engine.proofs.Does.{comes_to, refuses, covered_by, uncovered_by, cove
 -- ---- an engine that goes on, or has ended
 
 -- what an engine in a phase answers
-pub goes_says : (p : Phase) (consumed n : ℕ) (i : Option (Verdict Answer)) → reply_says (goes_on p) consumed n i ≡ reply (ended_in (phase_says p)) consumed n i
+pub goes_says : (p : Phase) (consumed n : ℕ) (i : Option (Verdict Answer)) → reply_says (Ok (goes_on p)) consumed n i ≡ reply (ended_in (phase_says p)) consumed n i
 goes_says Running consumed n i = refl
 goes_says (Awaiting o) consumed n i = refl
 goes_says (Stopped o) consumed n i = refl
 
-pub goes_taken : (p : Phase) (consumed n : ℕ) (i : Option (Verdict Answer)) (k : ℕ) → reply_says (goes_on p) consumed n i ≡ refuse k → {A : Type 0} → A
+pub goes_taken : (p : Phase) (consumed n : ℕ) (i : Option (Verdict Answer)) (k : ℕ) → reply_says (Ok (goes_on p)) consumed n i ≡ refuse k → {A : Type 0} → A
 goes_taken Running consumed n i k e = let z : ◌≡◌ {A = ℕ} 0 1 = cc in absurd (omega arith)
 goes_taken (Awaiting o) consumed n i k e = let z : ◌≡◌ {A = ℕ} 0 1 = cc in absurd (omega arith)
 goes_taken (Stopped o) consumed n i k e = let z : ◌≡◌ {A = ℕ} 0 1 = cc in absurd (omega arith)
@@ -84,7 +79,7 @@ settled_in e d = whole e d.tables d.id
 
 well_done :
     (event : Event) (call : Call) (e : Whole) (e' : ConnectionEngine) (d : View.Whole) (ans : Answer) (a : Verdict Answer) (out : List ℕ) (n : ℕ) → Is event call e
-    → C.Does call (connection_in e) a out d → a ≡ accept ans → n ≡ written_in ans → Settles d.connection e' → Does event e (reply_says (goes_on e'.phase) 0 n (some a)) out (settled_in e' d)
+    → C.Does call (connection_in e) a out d → a ≡ accept ans → n ≡ written_in ans → Settles d.connection e' → Does event e (reply_says (Ok (goes_on e'.phase)) 0 n (Some a)) out (settled_in e' d)
 well_done event call e e' d ans a out n i p q c s =
     let later : connection_in (settled_in e' d) ≡ d = ap (λ x. View.whole x d.tables d.id) s.settles_with in
     record {
@@ -95,8 +90,8 @@ well_done event call e e' d ans a out n i p q c s =
           let f : phase_says e'.phase ≡ settled (apply (settings_of e) w.outcome.effect (view_of e).connection).state = s.settles ∙ ap (λ x. settled x.state) w.leads in
           record {
             draws = λ t. record {
-              reply = (goes_says e'.phase 0 n (some a)
-                  ∙ (λ u. reply (ended_in (f u)) 0 ((c ∙ sym w.counts) u) (some ((q ∙ ap accept (sym w.answers)) u)))
+              reply = (goes_says e'.phase 0 n (Some a)
+                  ∙ (λ u. reply (ended_in (f u)) 0 ((c ∙ sym w.counts) u) (Some ((q ∙ ap accept (sym w.answers)) u)))
                   ∙ ap replied (sym j)) t;
               output = (w.puts ∙ ap (laid (accept w.outcome.bytes)) (sym i.lends) ∙ ap (λ u. laid (M.written u) (lent event)) (sym j)) t;
             };
@@ -104,7 +99,7 @@ well_done event call e e' d ans a out n i p q c s =
             sound = subst View.Sound (sym later) w.stays_sound;
           };
       same = subst (λ x. E.Same (View.endpoint_in (connection_in e)) (View.endpoint_in x)) (sym later) p.same;
-      refused = λ k r. goes_taken e'.phase 0 n (some a) k r;
+      refused = λ k r. goes_taken e'.phase 0 n (Some a) k r;
     }
 
 -- ---- allocate and deallocate
@@ -151,79 +146,79 @@ module _ (e : ConnectionEngine) (t : List ℕ) (v : Bool) (cover : (id : List �
       order_done :
           (event : Event) (call : Call) (ans : Answer) (x : Connection) (t' : List ℕ) (d : ConnectionEngine) (r : R.Running) → Orders event call → b ≡ false
           → ((id : List ℕ) → C.DoesIn call (View.whole e.connection t id) (accept ans) [] (View.whole x t' id)) → 0 ≡ written_in ans → Settles x d → r ≡ goes_on d.phase
-          → (id : List ℕ) → DoesIn event (whole e t id) (reply_says r 0 0 (some (accept ans))) [] (whole d t' id)
+          → (id : List ℕ) → DoesIn event (whole e t id) (reply_says (Ok r) 0 0 (Some (accept ans))) [] (whole d t' id)
       order_done event call ans x t' d r o f p c s q id =
-          subst (λ u. DoesIn event (whole e t id) (reply_says u 0 0 (some (accept ans))) [] (whole d t' id)) (sym q)
+          subst (λ u. DoesIn event (whole e t id) (reply_says (Ok u) 0 0 (Some (accept ans))) [] (whole d t' id)) (sym q)
           (in_them event (whole d t' id) _ id o.roomy
           (well_done event call (whole e t id) d (View.whole x t' id) ans (accept ans) [] 0 (is_order event call o f id) (p id).does refl c s))
 
-abbrev NotAllocated : ConnectionEngine → ℕ → OnAllocate → Type 0
-NotAllocated e k r = (r.running ≡ NotRun k) × (r.engine ≡ e)
+abbrev NotAllocated : ConnectionEngine → Refusal → OnAllocate → Type 0
+NotAllocated e k r = (r.running ≡ Err k) × (r.engine ≡ e)
 
-abbrev NotDeallocated : ConnectionEngine → ℕ → OnDeallocate → Type 0
-NotDeallocated e k r = (r.running ≡ NotRun k) × (r.engine ≡ e)
+abbrev NotDeallocated : ConnectionEngine → Refusal → OnDeallocate → Type 0
+NotDeallocated e k r = (r.running ≡ Err k) × (r.engine ≡ e)
 
 -- what the events are answered and leave
 abbrev Allocates : ConnectionEngine → List ℕ → ℕ → OnAllocate → List ℕ → Type 0
-Allocates e t h r t' = (id : List ℕ) → DoesIn (M.allocate h) (whole e t id) (reply_says r.running 0 0 (some (allocate_says r.answer))) [] (whole r.engine t' id)
+Allocates e t h r t' = (id : List ℕ) → DoesIn (M.allocate h) (whole e t id) (reply_says r.running 0 0 (Some (allocate_says r.answer))) [] (whole r.engine t' id)
 
 abbrev Deallocates : ConnectionEngine → List ℕ → ℕ → OnDeallocate → List ℕ → Type 0
-Deallocates e t ch r t' = (id : List ℕ) → DoesIn (M.deallocate ch) (whole e t id) (reply_says r.running 0 0 (some (freed_says r.answer))) [] (whole r.engine t' id)
+Deallocates e t ch r t' = (id : List ℕ) → DoesIn (M.deallocate ch) (whole e t id) (reply_says r.running 0 0 (Some (freed_says r.answer))) [] (whole r.engine t' id)
 
 module _ (e : ConnectionEngine) (t : List ℕ) (v : Bool) (cover : (id : List ℕ) → v ≡ C.is_covered (View.whole e.connection t id)) where
-  pub allocate_8 : (h : ℕ) (r : OnAllocate) → not v ≡ true → NotAllocated e 8 r → Allocates e t h r t
-  allocate_8 h r n w = order_8 e t v cover (M.allocate h) (K.allocate h) r.engine _ (allocates h) n (ap (λ u. reply_says u 0 0 (some (allocate_says r.answer))) w.0) w.1
+  pub allocate_8 : (h : ℕ) (r : OnAllocate) → not v ≡ true → NotAllocated e OutOfBounds r → Allocates e t h r t
+  allocate_8 h r n w = order_8 e t v cover (M.allocate h) (K.allocate h) r.engine _ (allocates h) n (ap (λ u. reply_says u 0 0 (Some (allocate_says r.answer))) w.0) w.1
 
-  pub deallocate_8 : (ch : ℕ) (r : OnDeallocate) → not v ≡ true → NotDeallocated e 8 r → Deallocates e t ch r t
-  deallocate_8 ch r n w = order_8 e t v cover (M.deallocate ch) (K.deallocate ch) r.engine _ (deallocates ch) n (ap (λ u. reply_says u 0 0 (some (freed_says r.answer))) w.0) w.1
+  pub deallocate_8 : (ch : ℕ) (r : OnDeallocate) → not v ≡ true → NotDeallocated e OutOfBounds r → Deallocates e t ch r t
+  deallocate_8 ch r n w = order_8 e t v cover (M.deallocate ch) (K.deallocate ch) r.engine _ (deallocates ch) n (ap (λ u. reply_says u 0 0 (Some (freed_says r.answer))) w.0) w.1
 
   module _ (b : Bool) (ends : b ≡ not (is_running (phase_says e.phase))) where
-    pub allocate_20 : (h : ℕ) (r : OnAllocate) → not v ≡ false → b ≡ true → NotAllocated e 20 r → Allocates e t h r t
-    allocate_20 h r n f w = order_20 e t v cover n b ends (M.allocate h) (K.allocate h) r.engine _ (allocates h) f (ap (λ u. reply_says u 0 0 (some (allocate_says r.answer))) w.0) w.1
+    pub allocate_20 : (h : ℕ) (r : OnAllocate) → not v ≡ false → b ≡ true → NotAllocated e IllegalState r → Allocates e t h r t
+    allocate_20 h r n f w = order_20 e t v cover n b ends (M.allocate h) (K.allocate h) r.engine _ (allocates h) f (ap (λ u. reply_says u 0 0 (Some (allocate_says r.answer))) w.0) w.1
 
-    pub deallocate_20 : (ch : ℕ) (r : OnDeallocate) → not v ≡ false → b ≡ true → NotDeallocated e 20 r → Deallocates e t ch r t
-    deallocate_20 ch r n f w = order_20 e t v cover n b ends (M.deallocate ch) (K.deallocate ch) r.engine _ (deallocates ch) f (ap (λ u. reply_says u 0 0 (some (freed_says r.answer))) w.0) w.1
+    pub deallocate_20 : (ch : ℕ) (r : OnDeallocate) → not v ≡ false → b ≡ true → NotDeallocated e IllegalState r → Deallocates e t ch r t
+    deallocate_20 ch r n f w = order_20 e t v cover n b ends (M.deallocate ch) (K.deallocate ch) r.engine _ (deallocates ch) f (ap (λ u. reply_says u 0 0 (Some (freed_says r.answer))) w.0) w.1
 
     pub allocate_refused :
-        (h : ℕ) (a : AllocateAnswer) (x : Connection) (t' : List ℕ) (k : ℕ) (r : OnAllocate) → not v ≡ false → b ≡ false
-        → ((id : List ℕ) → C.DoesIn (K.allocate h) (View.whole e.connection t id) (allocate_says a) [] (View.whole x t' id)) → a ≡ NoChannel k → NotAllocated e k r → Allocates e t h r t'
+        (h : ℕ) (a : Result ℕ Refusal) (x : Connection) (t' : List ℕ) (k : Refusal) (r : OnAllocate) → not v ≡ false → b ≡ false
+        → ((id : List ℕ) → C.DoesIn (K.allocate h) (View.whole e.connection t id) (allocate_says a) [] (View.whole x t' id)) → a ≡ Err k → NotAllocated e k r → Allocates e t h r t'
     allocate_refused h a x t' k r n f p q w =
-        order_refused e t v cover n b ends (M.allocate h) (K.allocate h) (allocate_says a) x t' k r.engine _ (allocates h) f p (ap allocate_says q) (ap (λ u. reply_says u 0 0 (some (allocate_says r.answer))) w.0) w.1
+        order_refused e t v cover n b ends (M.allocate h) (K.allocate h) (allocate_says a) x t' (number_of k) r.engine _ (allocates h) f p (ap allocate_says q) (ap (λ u. reply_says u 0 0 (Some (allocate_says r.answer))) w.0) w.1
 
     pub deallocate_refused :
-        (ch : ℕ) (a : DeallocateAnswer) (x : Connection) (t' : List ℕ) (k : ℕ) (r : OnDeallocate) → not v ≡ false → b ≡ false
-        → ((id : List ℕ) → C.DoesIn (K.deallocate ch) (View.whole e.connection t id) (freed_says a) [] (View.whole x t' id)) → a ≡ NotFreed k → NotDeallocated e k r → Deallocates e t ch r t'
+        (ch : ℕ) (a : Result ℕ Refusal) (x : Connection) (t' : List ℕ) (k : Refusal) (r : OnDeallocate) → not v ≡ false → b ≡ false
+        → ((id : List ℕ) → C.DoesIn (K.deallocate ch) (View.whole e.connection t id) (freed_says a) [] (View.whole x t' id)) → a ≡ Err k → NotDeallocated e k r → Deallocates e t ch r t'
     deallocate_refused ch a x t' k r n f p q w =
-        order_refused e t v cover n b ends (M.deallocate ch) (K.deallocate ch) (freed_says a) x t' k r.engine _ (deallocates ch) f p (ap freed_says q) (ap (λ u. reply_says u 0 0 (some (freed_says r.answer))) w.0) w.1
+        order_refused e t v cover n b ends (M.deallocate ch) (K.deallocate ch) (freed_says a) x t' (number_of k) r.engine _ (deallocates ch) f p (ap freed_says q) (ap (λ u. reply_says u 0 0 (Some (freed_says r.answer))) w.0) w.1
 
     pub allocate_done :
-        (h : ℕ) (a : AllocateAnswer) (x : Connection) (t' : List ℕ) (d : ConnectionEngine) (r : R.Running) → not v ≡ false → b ≡ false
-        → ((id : List ℕ) → C.DoesIn (K.allocate h) (View.whole e.connection t id) (allocate_says a) [] (View.whole x t' id)) → OneOf (0 ∷ []) (tag_of allocate_type a) → Settles x d → r ≡ goes_on d.phase
-        → (id : List ℕ) → DoesIn (M.allocate h) (whole e t id) (reply_says r 0 0 (some (allocate_says a))) [] (whole d t' id)
-    allocate_done h (Channel ch) x t' d r n f p o s q = order_done e t v cover n b ends (M.allocate h) (K.allocate h) (K.channel ch) x t' d r (allocates h) f p refl s q
-    allocate_done h (NoChannel k) x t' d r n f p o s q = absurd (miss (0 ∷ []) 1 tt o)
+        (h : ℕ) (a : Result ℕ Refusal) (x : Connection) (t' : List ℕ) (d : ConnectionEngine) (r : R.Running) → not v ≡ false → b ≡ false
+        → ((id : List ℕ) → C.DoesIn (K.allocate h) (View.whole e.connection t id) (allocate_says a) [] (View.whole x t' id)) → ((k : Refusal) → a ≡ Err k → ⊥) → Settles x d → r ≡ goes_on d.phase
+        → (id : List ℕ) → DoesIn (M.allocate h) (whole e t id) (reply_says (Ok r) 0 0 (Some (allocate_says a))) [] (whole d t' id)
+    allocate_done h (Ok ch) x t' d r n f p o s q = order_done e t v cover n b ends (M.allocate h) (K.allocate h) (K.channel ch) x t' d r (allocates h) f p refl s q
+    allocate_done h (Err k) x t' d r n f p o s q = absurd (o k refl)
 
     pub deallocate_done :
-        (ch : ℕ) (a : DeallocateAnswer) (x : Connection) (t' : List ℕ) (d : ConnectionEngine) (r : R.Running) → not v ≡ false → b ≡ false
-        → ((id : List ℕ) → C.DoesIn (K.deallocate ch) (View.whole e.connection t id) (freed_says a) [] (View.whole x t' id)) → OneOf (0 ∷ []) (tag_of deallocate_type a) → Settles x d → r ≡ goes_on d.phase
-        → (id : List ℕ) → DoesIn (M.deallocate ch) (whole e t id) (reply_says r 0 0 (some (freed_says a))) [] (whole d t' id)
-    deallocate_done ch (Freed h) x t' d r n f p o s q = order_done e t v cover n b ends (M.deallocate ch) (K.deallocate ch) (K.freed h) x t' d r (deallocates ch) f p refl s q
-    deallocate_done ch (NotFreed k) x t' d r n f p o s q = absurd (miss (0 ∷ []) 1 tt o)
+        (ch : ℕ) (a : Result ℕ Refusal) (x : Connection) (t' : List ℕ) (d : ConnectionEngine) (r : R.Running) → not v ≡ false → b ≡ false
+        → ((id : List ℕ) → C.DoesIn (K.deallocate ch) (View.whole e.connection t id) (freed_says a) [] (View.whole x t' id)) → ((k : Refusal) → a ≡ Err k → ⊥) → Settles x d → r ≡ goes_on d.phase
+        → (id : List ℕ) → DoesIn (M.deallocate ch) (whole e t id) (reply_says (Ok r) 0 0 (Some (freed_says a))) [] (whole d t' id)
+    deallocate_done ch (Ok h) x t' d r n f p o s q = order_done e t v cover n b ends (M.deallocate ch) (K.deallocate ch) (K.freed h) x t' d r (deallocates ch) f p refl s q
+    deallocate_done ch (Err k) x t' d r n f p o s q = absurd (o k refl)
 
 -- ---- tick
 
-abbrev NotBeaten : ConnectionEngine → ℕ → OnHeartbeat → Type 0
-NotBeaten e k r = (r.running ≡ NotRun k) × (r.engine ≡ e)
+abbrev NotBeaten : ConnectionEngine → Refusal → OnHeartbeat → Type 0
+NotBeaten e k r = (r.running ≡ Err k) × (r.engine ≡ e)
 
 abbrev Beats : ConnectionEngine → List ℕ → OnHeartbeat → List ℕ → Type 0
-Beats e out r out' = (t id : List ℕ) → Does (M.tick out) (whole e t id) (reply_says r.running 0 (tick_count r.answer) (some (tick_says r.answer))) out' (whole r.engine t id)
+Beats e out r out' = (t id : List ℕ) → Does (M.tick out) (whole e t id) (reply_says r.running 0 (tick_count r.answer) (Some (tick_says r.answer))) out' (whole r.engine t id)
 
-no_reply : (e : ConnectionEngine) (k : ℕ) (r : OnHeartbeat) → NotBeaten e k r → reply_says r.running 0 (tick_count r.answer) (some (tick_says r.answer)) ≡ refuse k
-no_reply e k r w = ap (λ u. reply_says u 0 (tick_count r.answer) (some (tick_says r.answer))) w.0
+no_reply : (e : ConnectionEngine) (k : Refusal) (r : OnHeartbeat) → NotBeaten e k r → reply_says r.running 0 (tick_count r.answer) (Some (tick_says r.answer)) ≡ refuse (number_of k)
+no_reply e k r w = ap (λ u. reply_says u 0 (tick_count r.answer) (Some (tick_says r.answer))) w.0
 
-pub tick_9 : (e : ConnectionEngine) (out : List ℕ) (r : OnHeartbeat) → length out < 16384 → NotBeaten e 9 r → Beats e out r out
+pub tick_9 : (e : ConnectionEngine) (out : List ℕ) (r : OnHeartbeat) → length out < 16384 → NotBeaten e NoRoom r → Beats e out r out
 tick_9 e out r l w t id =
-    refuses (M.tick out) (whole e t id) (whole r.engine t id) 9 _ out (λ z. require_off 9 _ _ (room_no 0 out (omega arith))) (no_reply e 9 r w) (ap (λ x. whole x t id) w.1) refl
+    refuses (M.tick out) (whole e t id) (whole r.engine t id) 9 _ out (λ z. require_off 9 _ _ (room_no 0 out (omega arith))) (no_reply e NoRoom r w) (ap (λ x. whole x t id) w.1) refl
 
 -- 9 comes before the phase, and is judged once
 pub nine_once : {A B : Type 0} (room run : Bool) (x : Unit {0} → Verdict A) (f : A → Verdict B) → run ≡ true → require 9 room (λ _. require 20 run (λ _. and_then (require 9 room x) f)) ≡ and_then (require 9 room x) f
@@ -234,27 +229,27 @@ module _ (e : ConnectionEngine) (b : Bool) (ends : b ≡ not (is_running (phase_
   ticks : (out t id : List ℕ) → b ≡ false → Is (M.tick out) (K.tick out) (whole e t id)
   ticks out t id f = record { by = nine_once (room_for 0 out) _ _ _ (running_yet e.phase b ends f); lends = refl }
 
-  pub tick_20 : (out : List ℕ) (r : OnHeartbeat) → 16384 ≤ length out → b ≡ true → NotBeaten e 20 r → Beats e out r out
+  pub tick_20 : (out : List ℕ) (r : OnHeartbeat) → 16384 ≤ length out → b ≡ true → NotBeaten e IllegalState r → Beats e out r out
   tick_20 out r l f w t id =
       refuses (M.tick out) (whole e t id) (whole r.engine t id) 20 _ out (λ z. require_on 9 _ _ (room_yes 0 out (omega arith)) ∙ require_off 20 _ _ (ending e.phase b ends f))
-      (no_reply e 20 r w) (ap (λ x. whole x t id) w.1) refl
+      (no_reply e IllegalState r w) (ap (λ x. whole x t id) w.1) refl
 
   pub tick_refused :
-      (out out' : List ℕ) (a : TickAnswer) (x : Connection) (k : ℕ) (r : OnHeartbeat) → b ≡ false → ((t id : List ℕ) → C.Does (K.tick out) (View.whole e.connection t id) (tick_says a) out' (View.whole x t id))
-      → a ≡ NotTicked k → NotBeaten e k r → Beats e out r out'
+      (out out' : List ℕ) (a : Result TickAnswer Refusal) (x : Connection) (k : Refusal) (r : OnHeartbeat) → b ≡ false → ((t id : List ℕ) → C.Does (K.tick out) (View.whole e.connection t id) (tick_says a) out' (View.whole x t id))
+      → a ≡ Err k → NotBeaten e k r → Beats e out r out'
   tick_refused out out' a x k r f p q w t id =
-      well_refused (M.tick out) (K.tick out) (whole e t id) (whole r.engine t id) (View.whole x t id) k (tick_says a) _ out' (ticks out t id f) (p t id) (ap tick_says q) (no_reply e k r w) (ap (λ y. whole y t id) w.1)
+      well_refused (M.tick out) (K.tick out) (whole e t id) (whole r.engine t id) (View.whole x t id) (number_of k) (tick_says a) _ out' (ticks out t id f) (p t id) (ap tick_says q) (no_reply e k r w) (ap (λ y. whole y t id) w.1)
 
   tick_well :
       (out out' : List ℕ) (ans : Answer) (x : Connection) (d : ConnectionEngine) (r : R.Running) (n : ℕ) → b ≡ false → ((t id : List ℕ) → C.Does (K.tick out) (View.whole e.connection t id) (accept ans) out' (View.whole x t id))
-      → n ≡ written_in ans → Settles x d → r ≡ goes_on d.phase → (t id : List ℕ) → Does (M.tick out) (whole e t id) (reply_says r 0 n (some (accept ans))) out' (whole d t id)
+      → n ≡ written_in ans → Settles x d → r ≡ goes_on d.phase → (t id : List ℕ) → Does (M.tick out) (whole e t id) (reply_says (Ok r) 0 n (Some (accept ans))) out' (whole d t id)
   tick_well out out' ans x d r n f p c s q t id =
-      subst (λ u. Does (M.tick out) (whole e t id) (reply_says u 0 n (some (accept ans))) out' (whole d t id)) (sym q)
+      subst (λ u. Does (M.tick out) (whole e t id) (reply_says (Ok u) 0 n (Some (accept ans))) out' (whole d t id)) (sym q)
       (well_done (M.tick out) (K.tick out) (whole e t id) d (View.whole x t id) ans (accept ans) out' n (ticks out t id f) (p t id) refl c s)
 
   pub tick_done :
-      (out out' : List ℕ) (a : TickAnswer) (x : Connection) (d : ConnectionEngine) (r : R.Running) → b ≡ false → ((t id : List ℕ) → C.Does (K.tick out) (View.whole e.connection t id) (tick_says a) out' (View.whole x t id))
-      → ((k : ℕ) → a ≡ NotTicked k → ⊥) → Settles x d → r ≡ goes_on d.phase → (t id : List ℕ) → Does (M.tick out) (whole e t id) (reply_says r 0 (tick_count a) (some (tick_says a))) out' (whole d t id)
-  tick_done out out' (Wrote n) x d r f p o s q = tick_well out out' (K.wrote n) x d r n f p refl s q
-  tick_done out out' Idle x d r f p o s q = tick_well out out' K.stop x d r 0 f p refl s q
-  tick_done out out' (NotTicked k) x d r f p o s q = absurd (o k refl)
+      (out out' : List ℕ) (a : Result TickAnswer Refusal) (x : Connection) (d : ConnectionEngine) (r : R.Running) → b ≡ false → ((t id : List ℕ) → C.Does (K.tick out) (View.whole e.connection t id) (tick_says a) out' (View.whole x t id))
+      → ((k : Refusal) → a ≡ Err k → ⊥) → Settles x d → r ≡ goes_on d.phase → (t id : List ℕ) → Does (M.tick out) (whole e t id) (reply_says (Ok r) 0 (tick_count a) (Some (tick_says a))) out' (whole d t id)
+  tick_done out out' (Ok (Wrote n)) x d r f p o s q = tick_well out out' (K.wrote n) x d r n f p refl s q
+  tick_done out out' (Ok Idle) x d r f p o s q = tick_well out out' K.stop x d r 0 f p refl s q
+  tick_done out out' (Err k) x d r f p o s q = absurd (o k refl)

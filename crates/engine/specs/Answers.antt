@@ -1,16 +1,15 @@
 -- What an engine stands for in its definition, and what the answers of its events say.
 -- Assumes nothing: these are definitions.
-use Rattle.std.specs.Prelude.{◌≡◌, List, ℕ}
-use Rattle.std.proofs.Math.Option.{Option, none, some}
+use Rattle.std.specs.Prelude.{◌≡◌, List, ℕ, Option, None, Some, Result, Ok, Err}
 use Rattle.octets.specs.Verdict.{Verdict, refuse, accept}
-use Rattle.octets.specs.declared.Written.{Written}
-use Rattle.octets.specs.declared.Written.TheVariants.{Bytes, Refused as NotWritten}
+use Rattle.octets.specs.Refusal.{number_of}
+use Rattle.octets.specs.declared.Refusal.{Refusal}
 use Rattle.frame_encoder.specs.Frames.{Settings}
 use Rattle.connection_model.specs.Connection.{Role, Answer}
 use Rattle.connection.specs.View as C
 use Rattle.connection.specs.declared.Connection.{Connection}
 use Rattle.connection.specs.declared.TickAnswer.{TickAnswer}
-use Rattle.connection.specs.declared.TickAnswer.TheVariants.{Wrote, Stop as Idle, Refused as NotTicked}
+use Rattle.connection.specs.declared.TickAnswer.TheVariants.{Wrote, Stop as Idle}
 use Rattle.engine_model.specs.Engine as M
 use Rattle.engine_model.specs.Engine.{Reply, fine, transport_error, illegal_state, not_found, not_implemented, remote_closed, remote_closed_with_error, running, awaiting, stopped, fault, illegal}
 use Rattle.engine_model.specs.Texts.{not_found_condition, not_implemented_condition, no_session, no_outgoing_channel, no_remote_session}
@@ -19,7 +18,7 @@ use Rattle.engine.specs.declared.Outcome.TheVariants.{Fine, TransportError, Ille
 use Rattle.engine.specs.declared.Phase.{Phase}
 use Rattle.engine.specs.declared.Phase.TheVariants.{Running, Awaiting, Stopped}
 use Rattle.engine.specs.declared.Running as R
-use Rattle.engine.specs.declared.Running.TheVariants.{Continue, Stop, Refused}
+use Rattle.engine.specs.declared.Running.TheVariants.{Continue, Stop}
 use Rattle.engine.specs.declared.error.InnerError.{InnerError}
 use Rattle.engine.specs.declared.error.InnerError.TheVariants.{TransportError as TransportFailed, IllegalState as StateIllegal, NotFound as Unknown, SessionNotFound, OutgoingChannelNotFound, NotImplemented as Missing, RemoteSession}
 use Rattle.engine.specs.declared.ConnectionEngine.{ConnectionEngine}
@@ -71,13 +70,13 @@ Sound w = C.Sound (connection_in w)
 
 -- a transport error tells the peer nothing
 abbrev pub error_says : InnerError → Option M.Fault
-error_says TransportFailed = none
-error_says StateIllegal = some illegal
-error_says Unknown = some (fault not_found not_found_condition none)
-error_says SessionNotFound = some (fault not_found not_found_condition (some no_session))
-error_says OutgoingChannelNotFound = some (fault not_found not_found_condition (some no_outgoing_channel))
-error_says Missing = some (fault not_implemented not_implemented_condition none)
-error_says RemoteSession = some (fault not_implemented not_implemented_condition (some no_remote_session))
+error_says TransportFailed = None
+error_says StateIllegal = Some illegal
+error_says Unknown = Some (fault not_found not_found_condition None)
+error_says SessionNotFound = Some (fault not_found not_found_condition (Some no_session))
+error_says OutgoingChannelNotFound = Some (fault not_found not_found_condition (Some no_outgoing_channel))
+error_says Missing = Some (fault not_implemented not_implemented_condition None)
+error_says RemoteSession = Some (fault not_implemented not_implemented_condition (Some no_remote_session))
 
 -- ---- answers
 
@@ -91,28 +90,27 @@ abbrev pub reply : Option M.Outcome → ℕ → ℕ → Option (Verdict Answer) 
 reply ended consumed written inner = accept (record { ended = ended; consumed = consumed; written = written; inner = inner })
 
 -- whether it goes on, the bytes consumed and written, and what the connection's call inside answered
-abbrev pub reply_says : R.Running → ℕ → ℕ → Option (Verdict Answer) → Verdict Reply
-reply_says Continue consumed written inner = reply none consumed written inner
-reply_says (Stop o) consumed written inner = reply (some (outcome_says o)) consumed written inner
-reply_says (Refused k) consumed written inner = refuse k
+abbrev pub reply_says : Result R.Running Refusal → ℕ → ℕ → Option (Verdict Answer) → Verdict Reply
+reply_says (Ok Continue) consumed written inner = reply None consumed written inner
+reply_says (Ok (Stop o)) consumed written inner = reply (Some (outcome_says o)) consumed written inner
+reply_says (Err e) consumed written inner = refuse (number_of e)
 
--- a refused event consumed and wrote nothing, and its answer is that refusal: P k says so of a refusal with k
-abbrev pub Bare : R.Running → ℕ → ℕ → (ℕ → Type 0) → Type 0
-Bare Continue consumed written P = Unit {0}
-Bare (Stop o) consumed written P = Unit {0}
-Bare (Refused k) consumed written P = (consumed ≡ 0) × (written ≡ 0) × P k
+-- a refused event consumed and wrote nothing, and its answer is that refusal: P e says so of the refusal e
+abbrev pub Bare : Result R.Running Refusal → ℕ → ℕ → (Refusal → Type 0) → Type 0
+Bare (Ok r) consumed written P = Unit {0}
+Bare (Err e) consumed written P = (consumed ≡ 0) × (written ≡ 0) × P e
 
 -- a call that opens the connection goes on, whatever it answers; so many bytes were consumed
 abbrev pub opening_says : ℕ → ℕ → Verdict Answer → Verdict Reply
 opening_says consumed written (refuse k) = refuse k
-opening_says consumed written (accept a) = reply none consumed written (some (accept a))
+opening_says consumed written (accept a) = reply None consumed written (Some (accept a))
 
 -- how many bytes were written
-abbrev pub sent_count : Written → ℕ
-sent_count (Bytes n) = n
-sent_count (NotWritten k) = 0
+abbrev pub sent_count : Result ℕ Refusal → ℕ
+sent_count (Ok n) = n
+sent_count (Err e) = 0
 
-abbrev pub tick_count : TickAnswer → ℕ
-tick_count (Wrote n) = n
-tick_count Idle = 0
-tick_count (NotTicked k) = 0
+abbrev pub tick_count : Result TickAnswer Refusal → ℕ
+tick_count (Ok (Wrote n)) = n
+tick_count (Ok Idle) = 0
+tick_count (Err e) = 0

@@ -1,9 +1,9 @@
 -- What the events of an engine promise.
 -- Assumes nothing: these are definitions.
-use Rattle.std.specs.Prelude.{◌≡◌, Bool, true, false, cond, ◌||◌, List, ℕ, eqb, length, drop}
-use Rattle.std.proofs.Math.Option.{Option, none, some}
+use Rattle.std.specs.Prelude.{◌≡◌, Bool, true, false, cond, ◌||◌, List, ℕ, eqb, length, drop, Option, None, Some, Result, Ok, Err}
 use Rattle.octets.specs.Verdict.{Verdict, refuse, accept}
 use Rattle.octets.specs.Output.{room_for, laid}
+use Rattle.octets.specs.declared.Refusal.{Refusal}
 use Rattle.connection_state.specs.States.{State}
 use Rattle.connection_state.specs.Answers.{state_says}
 use Rattle.connection.specs.declared.Connection.{Connection}
@@ -11,8 +11,6 @@ use Rattle.engine_model.specs.Engine.{Event, Reply, seen, next, lent, has_room}
 use Rattle.frame_encoder.specs.Frames.{Settings}
 use Rattle.connection_model.specs.Connection.{Role, Answer, send_close_to}
 use Rattle.connection.specs.Promises as C
-use Rattle.connection.specs.declared.NewConnection.{NewConnection}
-use Rattle.connection.specs.declared.NewConnection.TheVariants as N
 use Rattle.endpoint.specs.Promises as E
 use Rattle.connection.specs.View as View
 use Rattle.engine_model.specs.Engine as M
@@ -22,10 +20,6 @@ use Rattle.engine.specs.declared.Landed.{Landed}
 use Rattle.engine.specs.declared.OnError.{OnError}
 use Rattle.engine.specs.declared.Phase.{Phase}
 use Rattle.engine.specs.declared.Phase.TheVariants.{Running}
-use Rattle.engine.specs.declared.NewEngine.{NewEngine}
-use Rattle.engine.specs.declared.NewEngine.TheVariants.{Made, Refused}
-use Rattle.engine.specs.declared.ResumedEngine.{ResumedEngine}
-use Rattle.engine.specs.declared.ResumedEngine.TheVariants.{Is, Broken}
 use Rattle.engine.specs.Answers.{Whole, engine_of, connection_in, role_of, settings_of, view_of, Sound, phase_says, goes_on}
 
 -- the event draws this reply, leaves this output, and leads to this engine, as the definition has it
@@ -47,24 +41,24 @@ pub record DoesIn (event : Event) (before : Whole) (r : Verdict Reply) (out : Li
   pub uncovered : has_room event ≡ true → C.is_covered (connection_in before) ≡ false → r ≡ refuse 8
 
 -- a new engine runs, with a new connection
-abbrev pub new_in : NewEngine → NewConnection
-new_in (Made e) = N.Made e.connection
-new_in (Refused k) = N.Refused k
+abbrev pub new_in : Result ConnectionEngine Refusal → Result Connection Refusal
+new_in (Ok e) = Ok e.connection
+new_in (Err e) = Err e
 
-pub record Makes (role : Role) (S : Settings) (t : List ℕ) (r : NewEngine) (t' : List ℕ) : Type 0 where
+pub record Makes (role : Role) (S : Settings) (t : List ℕ) (r : Result ConnectionEngine Refusal) (t' : List ℕ) : Type 0 where
   pub made : C.Makes role S t (new_in r) t'
-  pub runs : (e : ConnectionEngine) → r ≡ Made e → e.phase ≡ Running
+  pub runs : (e : ConnectionEngine) → r ≡ Ok e → e.phase ≡ Running
 
 -- an engine that was kept, if its phase goes with its connection's state
-abbrev pub resumed_as : Phase → Connection → ResumedEngine
-resumed_as p c = cond (goes_with (phase_says p) (state_says c.local_state)) (Is (engine_of p c)) Broken
+abbrev pub resumed_as : Phase → Connection → Option ConnectionEngine
+resumed_as p c = cond (goes_with (phase_says p) (state_says c.local_state)) (Some (engine_of p c)) None
 
 -- ---- between the private functions
 
 -- an engine that runs, with a connection that was made
-pub record Runs (made : NewConnection) (r : NewEngine) : Type 0 where
+pub record Runs (made : Result Connection Refusal) (r : Result ConnectionEngine Refusal) : Type 0 where
   pub runs_with : new_in r ≡ made
-  pub runs_first : (e : ConnectionEngine) → r ≡ Made e → e.phase ≡ Running
+  pub runs_first : (e : ConnectionEngine) → r ≡ Ok e → e.phase ≡ Running
 
 -- a connection that an event left so: over, or to go on
 pub record Settles (c : Connection) (e : ConnectionEngine) : Type 0 where
@@ -82,8 +76,8 @@ landed_in l t id = record { phase = l.phase; written = l.written; connection = V
 
 -- the peer is told of an error, if there is one to be told
 abbrev pub SendsError : Option M.Fault → View.Whole → Verdict Answer → List ℕ → List ℕ → View.Whole → Type 0
-SendsError none c a out out' d = (a ≡ refuse 27) × (d ≡ c) × (out' ≡ out)
-SendsError (some f) c a out out' d = C.Does (send_close_to (some f.error) out) c a out' d
+SendsError None c a out out' d = (a ≡ refuse 27) × (d ≡ c) × (out' ≡ out)
+SendsError (Some f) c a out out' d = C.Does (send_close_to (Some f.error) out) c a out' d
 
 -- the phase where a Close with an error was refused with k
 abbrev pub not_closed : ℕ → M.Outcome → State → M.Phase
@@ -113,7 +107,7 @@ pub record Ends (c : View.Whole) (out out' : List ℕ) (r : LandedIn) : Type 0 w
 
 -- what the error path did, as it is answered
 pub record Handled (l : Landed) (r : OnError) : Type 0 where
-  pub handled_running : r.running ≡ goes_on l.phase
+  pub handled_running : r.running ≡ Ok (goes_on l.phase)
   pub handled_written : r.written ≡ l.written
   pub handled_engine : r.engine ≡ record { phase = l.phase; connection = l.connection }
 
@@ -121,11 +115,6 @@ pub record Handled (l : Landed) (r : OnError) : Type 0 where
 abbrev pub consumed_for : Verdict Answer → ℕ → ℕ
 consumed_for (refuse k) size = cond (eqb k 3 || eqb k 4) 0 size
 consumed_for (accept a) size = size
-
--- whether an answer tells of a Close, and then whether an error came with it
-abbrev pub close_of : Verdict Answer → Option Bool
-close_of (refuse k) = none
-close_of (accept a) = M.close_in a
 
 -- a frame was answered so while the peer's Close is awaited, and the state is x
 abbrev pub awaited_by : Role → M.Outcome → State → Verdict Answer → M.Phase

@@ -1,8 +1,9 @@
 -- What the functions promise that take a frame.
 -- Assumes nothing: these are definitions.
-use Rattle.std.specs.Prelude.{◌≡◌, Bool, true, false, not, ◌&&◌, ◌||◌, List, [], ℕ, leb, length}
+use Rattle.std.specs.Prelude.{◌≡◌, Bool, true, false, not, ◌&&◌, ◌||◌, List, [], ℕ, leb, length, Result, Ok}
 use Rattle.octets.specs.Verdict.{Verdict, accept}
 use Rattle.octets.specs.Output.{room_for}
+use Rattle.octets.specs.declared.Refusal.{Refusal}
 use Rattle.frame_decoder.specs.Frame.{size_of, read_frame, session_frames}
 use Rattle.frame_encoder.specs.Frames.{Settings}
 use Rattle.connection_state.specs.States.{State, CloseReceived, is}
@@ -48,8 +49,8 @@ pub record Took (e : Whole) (s : List ℕ) (a : Verdict Answer) (c : View.Whole)
       lent out r
 
 -- as it is answered
-pub record Taken (l : Landed) (a : FrameAnswer) (consumed : ℕ) (r : OnIncoming) : Type 0 where
-  pub taken_running : r.running ≡ goes_on l.phase
+pub record Taken (l : Landed) (a : Result FrameAnswer Refusal) (consumed : ℕ) (r : OnIncoming) : Type 0 where
+  pub taken_running : r.running ≡ Ok (goes_on l.phase)
   pub taken_consumed : r.consumed ≡ consumed
   pub taken_written : r.written ≡ l.written
   pub taken_answer : r.answer ≡ a

@@ -1,12 +1,12 @@
 -- What the functions promise that send one thing after the other.
 -- Assumes nothing: these are definitions.
-use Rattle.std.specs.Prelude.{◌≡◌, Bool, true, false, ◌&&◌, List, [], ◌∷◌, ℕ, ◌+◌, ◌*◌, ◌≤◌, length, drop, leb}
-use Rattle.std.proofs.Math.Option.{Option, none, some}
+use Rattle.std.specs.Prelude.{◌≡◌, Bool, true, ◌&&◌, List, [], ◌∷◌, ℕ, ◌+◌, ◌*◌, ◌≤◌, length, drop, leb, Option, Result, Ok, Err, option_map}
 use Rattle.octets.specs.Verdict.{Verdict, accept, require}
 use Rattle.octets.specs.Output.{room_for, laid}
-use Rattle.octets.specs.declared.Written.{Written}
-use Rattle.octets.specs.declared.Written.TheVariants.{Refused}
+use Rattle.octets.specs.declared.Refusal.{Refusal}
 use Rattle.frame_decoder.specs.Frame.{session_frames}
+use denote.Ref.{Bor}
+use Rattle.frame_encoder.specs.declared.ErrorText as Code
 use Rattle.frame_encoder.specs.Frames.{ErrorText}
 use Rattle.frame_encoder.specs.Answers.{error_text}
 use Rattle.connection_model.specs.Connection as K
@@ -33,7 +33,7 @@ waiting_trail c n w lent = M.trail (View.role_of c) (View.settings_of c) (K.wrot
 
 -- what came of frames that were sent one after the other, with what the connection is lent
 pub record TrailedIn : Type 0 where
-  pub answer : Written
+  pub answer : Result ℕ Refusal
   pub written : ℕ
   pub connection : View.Whole
 
@@ -57,26 +57,26 @@ pub record Drains (c : View.Whole) (n : ℕ) (w lent out : List ℕ) (r : Traile
 -- ---- the last of what goes out
 
 -- the last answer, the connection and the bytes in front of the output are those of the trail, so many of them from before the last call; a refusal leaves room for a Close
-pub record Trails (t : M.Trail) (lent out : List ℕ) (a : Written) (n : ℕ) (c : View.Whole) : Type 0 where
+pub record Trails (t : M.Trail) (lent out : List ℕ) (a : Result ℕ Refusal) (n : ℕ) (c : View.Whole) : Type 0 where
   pub trails_last : sent_says a ≡ t.last
   pub trails_connection : View.view_of c ≡ t.connection
   pub trails_count : n + sent_count a ≡ length t.bytes
   pub trails_output : out ≡ laid (accept t.bytes) lent
   pub trails_inside : n + sent_count a ≤ length out
-  pub trails_room : (k : ℕ) → a ≡ Refused k → room_for 0 (drop n out) ≡ true
+  pub trails_room : (e : Refusal) → a ≡ Err e → room_for 0 (drop n out) ≡ true
 
 -- where nothing was refused
 abbrev pub settles : K.Connection → List ℕ → M.Landing
 settles c bytes = M.landing (M.settled c.state) c bytes
 
--- where the error path led, after a refusal with k
-abbrev pub outgoing_from : Landed → ℕ → OnOutgoing
-outgoing_from l k = record { running = goes_on l.phase; written = l.written; answer = Refused k; engine = engine_of l.phase l.connection }
+-- where the error path led, after a refusal
+abbrev pub outgoing_from : Landed → Refusal → OnOutgoing
+outgoing_from l e = record { running = Ok (goes_on l.phase); written = l.written; answer = Err e; engine = engine_of l.phase l.connection }
 
 -- the event lands where the definition has it land after the trail: the last call answered a and left the connection c, and the engine afterwards is e
-pub record GoesOut (a : Written) (c : View.Whole) (n : ℕ) (out out' : List ℕ) (r : OnOutgoing) (e : Whole) : Type 0 where
+pub record GoesOut (a : Result ℕ Refusal) (c : View.Whole) (n : ℕ) (out out' : List ℕ) (r : OnOutgoing) (e : Whole) : Type 0 where
   pub goes_keeps : Keeps c (connection_in e)
-  pub goes_running : r.running ≡ goes_on e.engine.phase
+  pub goes_running : r.running ≡ Ok (goes_on e.engine.phase)
   pub goes_answer : r.answer ≡ a
   pub goes :
       View.Sound c → (t : M.Trail) (lent : List ℕ) → room_for 0 lent ≡ true → Trails t lent out a n c
@@ -93,6 +93,5 @@ ordered e fine w output =
     session_frames (settings_of e).channel_max w)))
 
 -- the error of a Close, if it has one
-abbrev pub error_if : Bool → List ℕ → Bool → List ℕ → Option ErrorText
-error_if true condition described description = some (error_text condition described description)
-error_if false condition described description = none
+abbrev pub error_if : Option (Bor Code.ErrorText) → Option ErrorText
+error_if error = option_map (λ e. error_text e.now) error

@@ -1,6 +1,5 @@
 // What is lost: a session to which a frame could not be delivered, and the input.
-ghost use Rattle.std.specs.Prelude.{◌≡◌, List, ℕ};
-ghost use Rattle.std.proofs.Math.Option.{none, some};
+ghost use Rattle.std.specs.Prelude.{◌≡◌, List, ℕ, Err};
 ghost use Rattle.connection_state.specs.Answers.{state_says};
 ghost use Rattle.connection_state.specs.States.{is_one_of};
 ghost use Rattle.endpoint.specs.Answers.{role_says};
@@ -8,20 +7,20 @@ ghost use Rattle.connection.specs.View as View;
 ghost use Rattle.engine_model.specs.Engine as M;
 ghost use Rattle.engine_model.specs.Engine.{fine, cut_short, not_delivered, end_of_input};
 ghost use Rattle.engine_model.specs.Phases.{stops_in};
-ghost use Rattle.engine.specs.declared.Running.TheVariants.{Refused as NotRun};
 ghost use Rattle.engine.specs.Answers.{whole, phase_says, error_says, reply_says, Bare};
 ghost use Rattle.engine.specs.Promises.{Does, Ends, Handled, landed_in};
 
 use crate::error::{InnerError, on_error};
 use crate::room::OUTPUT_ROOM;
-use crate::{ConnectionEngine, Landed, OnError, Outcome, Phase, Running};
+use crate::{ConnectionEngine, Landed, OnError, Outcome, Phase};
 use connection::Connection;
 use connection_state::ConnectionState;
 use endpoint::Role;
+use octets::Refusal;
 
 // What could not be delivered.
 fn undelivered(role: Role, new_session: bool) -> InnerError
-    ensures { error_says result ≡ some (M.undelivered (role_says role) new_session) }
+    ensures { error_says result ≡ Some (M.undelivered (role_says role) new_session) }
 {
     if !new_session {
         return InnerError::SessionNotFound;
@@ -36,12 +35,10 @@ fn undelivered(role: Role, new_session: bool) -> InnerError
 pub(crate) fn may_end(state: ConnectionState) -> bool
     ensures { result ≡ is_one_of (stops_in fine) (state_says state) }
 {
-    match state {
-        ConnectionState::ClosePipe => true,
-        ConnectionState::Discarding => true,
-        ConnectionState::End => true,
-        _ => false,
-    }
+    matches!(
+        state,
+        ConnectionState::ClosePipe | ConnectionState::Discarding | ConnectionState::End
+    )
 }
 
 // There is no more input, so that nothing can be awaited.
@@ -85,7 +82,7 @@ impl Landed {
         let connection = self.connection;
         let engine = ConnectionEngine { phase, connection };
         OnError {
-            running: engine.running(),
+            running: Ok(engine.running()),
             written: self.written,
             engine,
         }
@@ -93,11 +90,11 @@ impl Landed {
 }
 
 impl ConnectionEngine {
-    fn not_handled(self, k: u8) -> OnError
-        ensures { (result.running ≡ NotRun k) × (result.engine ≡ self) × (result.written ≡ 0) }
+    fn not_handled(self, refusal: Refusal) -> OnError
+        ensures { (result.running ≡ Err refusal) × (result.engine ≡ self) × (result.written ≡ 0) }
     {
         OnError {
-            running: Running::Refused(k),
+            running: Err(refusal),
             written: 0,
             engine: self,
         }
@@ -105,13 +102,13 @@ impl ConnectionEngine {
 
     // A frame that was handed on, or a new session, could not be delivered.
     pub fn on_not_delivered(self, new_session: bool, out: &mut [u8]) -> OnError
-        ensures { ((t id : List ℕ) → Does (not_delivered new_session out.old) (whole self t id) (reply_says result.running 0 result.written none) out.new (whole result.engine t id)) × Bare result.running 0 result.written (λ k. Unit {0}) }
+        ensures { ((t id : List ℕ) → Does (not_delivered new_session out.old) (whole self t id) (reply_says result.running 0 result.written None) out.new (whole result.engine t id)) × Bare result.running 0 result.written (λ e. Unit {0}) }
     {
         if out.len() < OUTPUT_ROOM {
-            return self.not_handled(9);
+            return self.not_handled(Refusal::NoRoom);
         }
         if self.is_ending() {
-            return self.not_handled(20);
+            return self.not_handled(Refusal::IllegalState);
         }
         let connection = self.connection;
         let error = undelivered(connection.role(), new_session);
@@ -121,15 +118,15 @@ impl ConnectionEngine {
 
     // There is no more input.
     pub fn on_end_of_input(self, out: &mut [u8]) -> OnError
-        ensures { ((t id : List ℕ) → Does (end_of_input out.old) (whole self t id) (reply_says result.running 0 result.written none) out.new (whole result.engine t id)) × Bare result.running 0 result.written (λ k. Unit {0}) }
+        ensures { ((t id : List ℕ) → Does (end_of_input out.old) (whole self t id) (reply_says result.running 0 result.written None) out.new (whole result.engine t id)) × Bare result.running 0 result.written (λ e. Unit {0}) }
     {
         if out.len() < OUTPUT_ROOM {
-            return self.not_handled(9);
+            return self.not_handled(Refusal::NoRoom);
         }
         let phase = self.phase;
         let connection = self.connection;
         match phase {
-            Phase::Stopped(_) => self.not_handled(20),
+            Phase::Stopped(_) => self.not_handled(Refusal::IllegalState),
             Phase::Awaiting(_) => {
                 let landed = Landed {
                     phase: Phase::Stopped(Outcome::TransportError),

@@ -1,5 +1,6 @@
 // Errors inside an event: the outcome that each leads to, what the peer is told, and where the error path leaves the engine.
-ghost use Rattle.std.specs.Prelude.{◌≡◌, List, ℕ, ◌≤◌, length};
+ghost use Rattle.std.specs.Prelude.{◌≡◌, List, ℕ, ◌≤◌, length, leb, not};
+ghost use Rattle.octets.specs.Refusal.{number_of};
 ghost use Rattle.connection_state.specs.Answers.{state_says};
 ghost use Rattle.endpoint.specs.Answers.{role_says, sent_says};
 ghost use Rattle.connection.specs.View as View;
@@ -12,7 +13,8 @@ use crate::{Landed, Outcome, Phase};
 use connection::{Connection, Sent};
 use connection_state::ConnectionState;
 use endpoint::Role;
-use octets::Written;
+use frame_encoder::ErrorText;
+use octets::Refusal;
 
 // An error inside an event: the outcome that it leads to, and what the peer is told.
 #[derive(Clone, Copy)]
@@ -42,36 +44,78 @@ pub(crate) fn outcome_of(error: InnerError) -> Outcome
 }
 
 // What the refusal of something that was to go out leads to.
-pub(crate) fn outgoing_error(k: u8) -> InnerError
-    ensures { error_says result ≡ send_fault k }
+pub(crate) fn outgoing_error(refusal: Refusal) -> InnerError
+    ensures { error_says result ≡ send_fault (number_of refusal) }
 {
-    if k == 20 {
-        return InnerError::IllegalState;
+    match refusal {
+        Refusal::IllegalState => InnerError::IllegalState,
+        Refusal::NotFound => InnerError::OutgoingChannelNotFound,
+        _ => InnerError::TransportError,
     }
-    if k == 24 {
-        return InnerError::OutgoingChannelNotFound;
+}
+
+// Whether a refusal is of what is lent alone, whatever the state: those numbered below 20.
+pub(crate) fn is_of_input(refusal: Refusal) -> bool
+    ensures { result ≡ not (leb 20 (number_of refusal)) }
+{
+    match refusal {
+        Refusal::IllegalState => false,
+        Refusal::NotOpened => false,
+        Refusal::Stopped => false,
+        Refusal::NoChannelLeft => false,
+        Refusal::NotFound => false,
+        Refusal::NotImplemented => false,
+        Refusal::NotTaken => false,
+        Refusal::OverWritingLimit => false,
+        _ => true,
     }
-    InnerError::TransportError
 }
 
 // What the refusal of a frame that came leads to.
-pub(crate) fn incoming_error(role: Role, k: u8) -> InnerError
-    ensures { error_says result ≡ read_fault (role_says role) k }
+pub(crate) fn incoming_error(role: Role, refusal: Refusal) -> InnerError
+    ensures { error_says result ≡ read_fault (role_says role) (number_of refusal) }
 {
-    if k == 20 {
-        return InnerError::IllegalState;
-    }
-    if k == 24 {
-        return InnerError::NotFound;
-    }
-    if k == 25 {
-        return match role {
+    match refusal {
+        Refusal::IllegalState => InnerError::IllegalState,
+        Refusal::NotFound => InnerError::NotFound,
+        Refusal::NotImplemented => match role {
             Role::Dialler => InnerError::RemoteSession,
             Role::Listener => InnerError::NotImplemented,
-        };
+        },
+        _ => InnerError::TransportError,
     }
-    InnerError::TransportError
 }
+
+// What the peer is told of each error
+const ILLEGAL_STATE: ErrorText<'static> = ErrorText {
+    condition: b"amqp:illegal-state",
+    description: None,
+};
+
+const NOT_FOUND: ErrorText<'static> = ErrorText {
+    condition: b"amqp:not-found",
+    description: None,
+};
+
+const SESSION_NOT_FOUND: ErrorText<'static> = ErrorText {
+    condition: b"amqp:not-found",
+    description: Some(b"Session is not found"),
+};
+
+const OUTGOING_CHANNEL_NOT_FOUND: ErrorText<'static> = ErrorText {
+    condition: b"amqp:not-found",
+    description: Some(b"Outgoing channel is not found"),
+};
+
+const NOT_IMPLEMENTED: ErrorText<'static> = ErrorText {
+    condition: b"amqp:not-implemented",
+    description: None,
+};
+
+const REMOTE_SESSION: ErrorText<'static> = ErrorText {
+    condition: b"amqp:not-implemented",
+    description: Some(b"Remotely initiazted session is not supported yet"),
+};
 
 // Tells the peer of an error by a Close. Of a transport error it is told nothing.
 fn send_error(connection: Connection, error: InnerError, out: &mut [u8]) -> Sent
@@ -79,37 +123,18 @@ fn send_error(connection: Connection, error: InnerError, out: &mut [u8]) -> Sent
 {
     match error {
         InnerError::TransportError => Sent {
-            answer: Written::Refused(27),
+            answer: Err(Refusal::OverWritingLimit),
             connection,
         },
-        InnerError::IllegalState => {
-            connection.send_close_with_error(b"amqp:illegal-state", false, b"", out)
-        }
-        InnerError::NotFound => {
-            connection.send_close_with_error(b"amqp:not-found", false, b"", out)
-        }
-        InnerError::SessionNotFound => {
-            connection.send_close_with_error(b"amqp:not-found", true, b"Session is not found", out)
-        }
-        InnerError::OutgoingChannelNotFound => {
-            connection.send_close_with_error(
-                b"amqp:not-found",
-                true,
-                b"Outgoing channel is not found",
-                out,
-            )
-        }
-        InnerError::NotImplemented => {
-            connection.send_close_with_error(b"amqp:not-implemented", false, b"", out)
-        }
-        InnerError::RemoteSession => {
-            connection.send_close_with_error(
-                b"amqp:not-implemented",
-                true,
-                b"Remotely initiazted session is not supported yet",
-                out,
-            )
-        }
+        InnerError::IllegalState => connection.send_close_with_error(&ILLEGAL_STATE, out),
+        InnerError::NotFound => connection.send_close_with_error(&NOT_FOUND, out),
+        InnerError::SessionNotFound => connection.send_close_with_error(&SESSION_NOT_FOUND, out),
+        InnerError::OutgoingChannelNotFound => connection.send_close_with_error(
+            &OUTGOING_CHANNEL_NOT_FOUND,
+            out,
+        ),
+        InnerError::NotImplemented => connection.send_close_with_error(&NOT_IMPLEMENTED, out),
+        InnerError::RemoteSession => connection.send_close_with_error(&REMOTE_SESSION, out),
     }
 }
 
@@ -123,13 +148,13 @@ fn closed_with(outcome: Outcome, state: ConnectionState) -> Phase
     Phase::Awaiting(outcome)
 }
 
-// The Close was refused with k: it is on its way already, or the connection is over, or there is nothing to close.
-fn unclosed(k: u8, outcome: Outcome, state: ConnectionState) -> Phase
-    ensures { phase_says result ≡ not_closed k (outcome_says outcome) (state_says state) }
+// The Close was refused: it is on its way already, or the connection is over, or there is nothing to close.
+fn unclosed(refusal: Refusal, outcome: Outcome, state: ConnectionState) -> Phase
+    ensures { phase_says result ≡ not_closed (number_of refusal) (outcome_says outcome) (state_says state) }
 {
-    if k != 20 {
+    let Refusal::IllegalState = refusal else {
         return Phase::Stopped(Outcome::TransportError);
-    }
+    };
     match state {
         ConnectionState::ClosePipe => Phase::Awaiting(outcome),
         ConnectionState::CloseSent => Phase::Awaiting(outcome),
@@ -155,13 +180,13 @@ pub(crate) fn on_error(
     let answer = sent.answer;
     let state = after.state();
     match answer {
-        Written::Bytes(n) => Landed {
+        Ok(n) => Landed {
             phase: closed_with(outcome, state),
             written: advanced(written, n, out.len()),
             connection: after,
         },
-        Written::Refused(k) => Landed {
-            phase: unclosed(k, outcome, state),
+        Err(refusal) => Landed {
+            phase: unclosed(refusal, outcome, state),
             written,
             connection: after,
         },

@@ -1,15 +1,11 @@
 // A frame that came.
-ghost use Rattle.std.specs.Prelude.{◌≡◌, List, ℕ, ◌≤◌, length};
-ghost use Rattle.std.proofs.Math.Option.{some};
-ghost use Rattle.endpoint.specs.declared.FrameAnswer.TheVariants.{Refused as NoFrame};
+ghost use Rattle.std.specs.Prelude.{◌≡◌, List, ℕ, ◌≤◌, length, Err};
 ghost use Rattle.connection_state.specs.Answers.{state_says};
 ghost use Rattle.connection.specs.View as View;
 ghost use Rattle.frame_decoder.specs.Frame.{read_frame};
-ghost use Rattle.frame_decoder.specs.Answers.{frames_say, refusal_in};
 ghost use Rattle.engine.specs.Reading.{Answered, Took, Taken, answers_close, lacks_bytes};
 ghost use Rattle.endpoint.specs.Answers.{answer_says};
 ghost use Rattle.engine_model.specs.Engine.{incoming, is_close};
-ghost use Rattle.engine.specs.declared.Running.TheVariants.{Refused as NotRun};
 ghost use Rattle.engine.specs.Answers.{whole, connection_in, reply_says, Bare};
 ghost use Rattle.engine.specs.Promises.{DoesIn, consumed_for, LeadsTo, landed_in};
 
@@ -17,19 +13,21 @@ use crate::error::{incoming_error, on_error, outgoing_error};
 use crate::room::{UNCOVERED, advanced, lacks_room};
 use crate::sending::{frame_size, send_waiting};
 use crate::settling::{phase_answered, phase_awaited, phase_read};
-use crate::{ConnectionEngine, Landed, OnIncoming, Phase, Running};
+use crate::{ConnectionEngine, Landed, OnIncoming, Phase};
 use connection::Connection;
 use connection_state::ConnectionState;
 use endpoint::FrameAnswer;
-use frame_decoder::{Frame, Frames};
-use octets::Written;
+use frame_decoder::Frame;
+use octets::Refusal;
 use performatives::Performative;
 
 // Whether a frame is a Close.
 fn is_close(s: &[u8], limit: u32, highest: u16) -> bool
     ensures { result ≡ is_close (read_frame limit highest s.now) }
 {
-    let frame = frame_decoder::read(s, limit, highest);
+    let Ok(frame) = frame_decoder::read(s, limit, highest) else {
+        return false;
+    };
     let Frame::Body {
         channel: _,
         size: _,
@@ -47,19 +45,17 @@ fn is_close(s: &[u8], limit: u32, highest: u16) -> bool
 }
 
 // How many bytes a frame that was answered so consumes.
-fn consumed_by(answer: FrameAnswer, size: usize) -> usize
+fn consumed_by(answer: Result<FrameAnswer, Refusal>, size: usize) -> usize
     ensures { result ≡ consumed_for (answer_says answer) size }
 {
-    let FrameAnswer::Refused(k) = answer else {
+    let Err(refusal) = answer else {
         return size;
     };
-    if k == 3 {
-        return 0;
+    match refusal {
+        Refusal::TooShort => 0,
+        Refusal::OverReadingLimit => 0,
+        _ => size,
     }
-    if k == 4 {
-        return 0;
-    }
-    size
 }
 
 // Whether bytes of the frame are missing, which is judged before anything is done.
@@ -79,20 +75,10 @@ fn lacks_bytes(s: &[u8], limit: u32) -> bool
     s.len() < size
 }
 
-// The number of a refusal; 0 where there is none.
-fn refusal_of(frames: Frames) -> u8
-    ensures { result ≡ refusal_in (frames_say frames) }
-{
-    match frames {
-        Frames::Are(_) => 0,
-        Frames::Refused(k) => k,
-    }
-}
-
 // Where a frame leads that was read and answered so, while the engine runs. So many bytes of the output are written already.
 fn read_to(
     connection: Connection,
-    answer: FrameAnswer,
+    answer: Result<FrameAnswer, Refusal>,
     reached: ConnectionState,
     written: usize,
     out: &mut [u8],
@@ -100,14 +86,16 @@ fn read_to(
     requires { written ≤ length out.old }
     ensures { (t id : List ℕ) → LeadsTo (state_says reached) (answer_says answer) (View.whole connection t id) written out.old out.new (landed_in result t id) }
 {
-    if let FrameAnswer::Refused(k) = answer {
-        let error = incoming_error(connection.role(), k);
-        return on_error(connection, error, written, out);
-    }
-    Landed {
-        phase: phase_read(answer, reached, connection.state()),
-        written,
-        connection,
+    match answer {
+        Err(refusal) => {
+            let error = incoming_error(connection.role(), refusal);
+            on_error(connection, error, written, out)
+        }
+        Ok(taken) => Landed {
+            phase: phase_read(taken, reached, connection.state()),
+            written,
+            connection,
+        },
     }
 }
 
@@ -115,7 +103,7 @@ fn read_to(
 fn answer_close(
     connection: Connection,
     tables: &mut [u8],
-    answer: FrameAnswer,
+    answer: Result<FrameAnswer, Refusal>,
     waiting: &[u8],
     count: usize,
     out: &mut [u8],
@@ -127,15 +115,15 @@ fn answer_close(
     let last = waited.answer;
     let written = waited.written;
     let sender = waited.connection;
-    if let Written::Refused(k) = last {
-        return on_error(sender, outgoing_error(k), written, out);
+    if let Err(refusal) = last {
+        return on_error(sender, outgoing_error(refusal), written, out);
     }
     let sent = sender.send_close(&mut out[written..]);
     let closed = sent.answer;
     let after = sent.connection;
     match closed {
-        Written::Refused(k) => on_error(after, outgoing_error(k), written, out),
-        Written::Bytes(n) => Landed {
+        Err(refusal) => on_error(after, outgoing_error(refusal), written, out),
+        Ok(n) => Landed {
             phase: phase_answered(after.role(), answer, reached, after.state()),
             written: advanced(written, n, out.len()),
             connection: after,
@@ -145,14 +133,14 @@ fn answer_close(
 
 impl Landed {
     // The engine, after a frame was answered so and consumed so many bytes
-    fn taken(self, answer: FrameAnswer, consumed: usize) -> OnIncoming
+    fn taken(self, answer: Result<FrameAnswer, Refusal>, consumed: usize) -> OnIncoming
         ensures { Taken self answer consumed result }
     {
         let phase = self.phase;
         let connection = self.connection;
         let engine = ConnectionEngine { phase, connection };
         OnIncoming {
-            running: engine.running(),
+            running: Ok(engine.running()),
             consumed,
             written: self.written,
             answer,
@@ -162,14 +150,14 @@ impl Landed {
 }
 
 impl ConnectionEngine {
-    fn not_taken(self, k: u8) -> OnIncoming
-        ensures { (result.running ≡ NotRun k) × (result.engine ≡ self) × (result.consumed ≡ 0) × (result.written ≡ 0) × (result.answer ≡ NoFrame k) }
+    fn not_taken(self, refusal: Refusal) -> OnIncoming
+        ensures { (result.running ≡ Err refusal) × (result.engine ≡ self) × (result.consumed ≡ 0) × (result.written ≡ 0) × (result.answer ≡ Err refusal) }
     {
         OnIncoming {
-            running: Running::Refused(k),
+            running: Err(refusal),
             consumed: 0,
             written: 0,
-            answer: FrameAnswer::Refused(k),
+            answer: Err(refusal),
             engine: self,
         }
     }
@@ -192,7 +180,7 @@ impl ConnectionEngine {
         self,
         tables: &mut [u8],
         s: &[u8],
-        answer: FrameAnswer,
+        answer: Result<FrameAnswer, Refusal>,
         after: Connection,
         waiting: &[u8],
         count: usize,
@@ -225,24 +213,24 @@ impl ConnectionEngine {
         waiting: &[u8],
         out: &mut [u8],
     ) -> OnIncoming
-        ensures { ((id : List ℕ) → DoesIn (incoming s.now spare waiting.now out.old) (whole self tables.old id) (reply_says result.running result.consumed result.written (some (answer_says result.answer))) out.new (whole result.engine tables.new id)) × Bare result.running result.consumed result.written (λ k. result.answer ≡ NoFrame k) }
+        ensures { ((id : List ℕ) → DoesIn (incoming s.now spare waiting.now out.old) (whole self tables.old id) (reply_says result.running result.consumed result.written (Some (answer_says result.answer))) out.new (whole result.engine tables.new id)) × Bare result.running result.consumed result.written (λ e. result.answer ≡ Err e) }
     {
         if lacks_room(out.len(), waiting.len()) {
-            return self.not_taken(9);
+            return self.not_taken(Refusal::NoRoom);
         }
         let connection = self.connection;
         if !connection.is_covered(tables) {
             return self.not_taken(UNCOVERED);
         }
         if self.is_stopped() {
-            return self.not_taken(20);
+            return self.not_taken(Refusal::IllegalState);
         }
         if lacks_bytes(s, connection.reading_limit()) {
-            return self.not_taken(1);
+            return self.not_taken(Refusal::BytesMissing);
         }
-        let frames = frame_decoder::session_frames(waiting, connection.channel_max());
-        let Frames::Are(count) = frames else {
-            return self.not_taken(refusal_of(frames));
+        let count = match frame_decoder::session_frames(waiting, connection.channel_max()) {
+            Err(refusal) => return self.not_taken(refusal),
+            Ok(count) => count,
         };
         let received = connection.receive_frame(tables, s, spare);
         let answer = received.answer;

@@ -13,18 +13,16 @@ mod sending;
 mod settling;
 
 ghost use Rattle.std.specs.Prelude.{◌≡◌, not};
-ghost use Rattle.frame_encoder.specs.Answers.{settings};
+ghost use Rattle.frame_encoder.specs.Answers.{settings_say};
 ghost use Rattle.connection_model.specs.Connection.{dialler, listener};
 ghost use Rattle.engine_model.specs.Engine.{is_running, is_stopped};
 ghost use Rattle.engine.specs.Answers.{phase_says, goes_on};
 ghost use Rattle.engine.specs.Promises.{Makes, Runs, resumed_as};
 
-use connection::{
-    AllocateAnswer, Connection, DeallocateAnswer, HeaderAnswer, NewConnection, TickAnswer,
-};
+use connection::{Connection, HeaderAnswer, TickAnswer};
 use endpoint::FrameAnswer;
-use frame_encoder::IdleTimeOut;
-use octets::Written;
+use frame_encoder::Settings;
+use octets::Refusal;
 
 // How an engine ends.
 #[derive(Clone, Copy)]
@@ -46,12 +44,12 @@ pub enum Phase {
     Stopped(Outcome),
 }
 
-// Whether the engine goes on after an event, or has stopped and how it ended; or the event's refusal.
+// Whether the engine goes on after an event, or has stopped and how it ended. Not an Option: going
+// on is an answer, and not the want of one.
 #[derive(Clone, Copy)]
 pub enum Running {
     Continue,
     Stop(Outcome),
-    Refused(u8),
 }
 
 #[derive(Clone, Copy)]
@@ -60,76 +58,62 @@ pub struct ConnectionEngine {
     connection: Connection,
 }
 
-// A new engine, or the refusal of its settings or tables.
-#[derive(Clone, Copy)]
-pub enum NewEngine {
-    Made(ConnectionEngine),
-    Refused(u8),
-}
-
-// An engine that was kept, or that events cannot lead to its phase in its connection's state.
-#[derive(Clone, Copy)]
-pub enum ResumedEngine {
-    Is(ConnectionEngine),
-    Broken,
-}
-
 #[derive(Clone, Copy)]
 pub struct OpeningSent {
-    pub answer: Written,
+    pub answer: Result<usize, Refusal>,
     pub engine: ConnectionEngine,
 }
 
 #[derive(Clone, Copy)]
 pub struct OpeningReceived {
-    pub answer: HeaderAnswer,
+    pub answer: Result<HeaderAnswer, Refusal>,
     pub engine: ConnectionEngine,
 }
 
 #[derive(Clone, Copy)]
 pub struct OnAllocate {
-    pub running: Running,
-    pub answer: AllocateAnswer,
+    pub running: Result<Running, Refusal>,
+    pub answer: Result<u16, Refusal>,
     pub engine: ConnectionEngine,
 }
 
 #[derive(Clone, Copy)]
 pub struct OnDeallocate {
-    pub running: Running,
-    pub answer: DeallocateAnswer,
+    pub running: Result<Running, Refusal>,
+    pub answer: Result<u32, Refusal>,
     pub engine: ConnectionEngine,
 }
 
 #[derive(Clone, Copy)]
 pub struct OnHeartbeat {
-    pub running: Running,
-    pub answer: TickAnswer,
+    pub running: Result<Running, Refusal>,
+    pub answer: Result<TickAnswer, Refusal>,
     pub engine: ConnectionEngine,
 }
 
 // A frame that went out, or did not.
 #[derive(Clone, Copy)]
 pub struct OnOutgoing {
-    pub running: Running,
+    pub running: Result<Running, Refusal>,
     pub written: usize,
-    pub answer: Written,
+    pub answer: Result<usize, Refusal>,
     pub engine: ConnectionEngine,
 }
 
 // A frame that came: what became of it, and how many bytes were consumed and written.
 #[derive(Clone, Copy)]
 pub struct OnIncoming {
-    pub running: Running,
+    pub running: Result<Running, Refusal>,
     pub consumed: usize,
     pub written: usize,
-    pub answer: FrameAnswer,
+    pub answer: Result<FrameAnswer, Refusal>,
     pub engine: ConnectionEngine,
 }
 
 // What the error path did.
 #[derive(Clone, Copy)]
 pub struct OnError {
-    pub running: Running,
+    pub running: Result<Running, Refusal>,
     pub written: usize,
     pub engine: ConnectionEngine,
 }
@@ -145,65 +129,36 @@ struct Landed {
 // What came of frames that were sent one after the other: the last answer, and how many bytes were written in all.
 #[derive(Clone, Copy)]
 struct Trailed {
-    answer: Written,
+    answer: Result<usize, Refusal>,
     written: usize,
     connection: Connection,
 }
 
 // An engine that runs, with a connection that was made.
-fn running_with(made: NewConnection) -> NewEngine
+fn running_with(made: Result<Connection, Refusal>) -> Result<ConnectionEngine, Refusal>
     ensures { Runs made result }
 {
-    match made {
-        NewConnection::Refused(k) => NewEngine::Refused(k),
-        NewConnection::Made(connection) => {
-            let engine = ConnectionEngine {
-                phase: Phase::Running,
-                connection,
-            };
-            NewEngine::Made(engine)
-        }
-    }
+    let connection = made?;
+    Ok(ConnectionEngine {
+        phase: Phase::Running,
+        connection,
+    })
 }
 
 impl ConnectionEngine {
     // The engine of the one that dials
-    pub fn dialler(
-        container_id: &[u8],
-        max_frame_size: u32,
-        channel_max: u16,
-        idle_time_out: IdleTimeOut,
-        tables: &mut [u8],
-    ) -> NewEngine
-        ensures { Makes dialler (settings container_id.now max_frame_size channel_max idle_time_out) tables.old result tables.new }
+    pub fn dialler(settings: &Settings<'_>, tables: &mut [u8]) -> Result<ConnectionEngine, Refusal>
+        ensures { Makes dialler (settings_say settings.now) tables.old result tables.new }
     {
-        let made = Connection::dialler(
-            container_id,
-            max_frame_size,
-            channel_max,
-            idle_time_out,
-            tables,
-        );
+        let made = Connection::dialler(settings, tables);
         running_with(made)
     }
 
     // The engine of the one that listens
-    pub fn listener(
-        container_id: &[u8],
-        max_frame_size: u32,
-        channel_max: u16,
-        idle_time_out: IdleTimeOut,
-        tables: &mut [u8],
-    ) -> NewEngine
-        ensures { Makes listener (settings container_id.now max_frame_size channel_max idle_time_out) tables.old result tables.new }
+    pub fn listener(settings: &Settings<'_>, tables: &mut [u8]) -> Result<ConnectionEngine, Refusal>
+        ensures { Makes listener (settings_say settings.now) tables.old result tables.new }
     {
-        let made = Connection::listener(
-            container_id,
-            max_frame_size,
-            channel_max,
-            idle_time_out,
-            tables,
-        );
+        let made = Connection::listener(settings, tables);
         running_with(made)
     }
 
@@ -220,14 +175,12 @@ impl ConnectionEngine {
         self.phase
     }
 
-    // An engine that was kept: a phase, and a connection in a state that goes with it. It is as sound as its connection.
-    pub fn resumed(phase: Phase, connection: Connection) -> ResumedEngine
+    // An engine that was kept: a phase, and a connection, if events can lead to the phase in its state. It is as sound as its connection.
+    pub fn resumed(phase: Phase, connection: Connection) -> Option<ConnectionEngine>
         ensures { result ≡ resumed_as phase connection }
     {
-        if resuming::goes_with(phase, connection.state()) {
-            return ResumedEngine::Is(ConnectionEngine { phase, connection });
-        }
-        ResumedEngine::Broken
+        let goes = resuming::goes_with(phase, connection.state());
+        goes.then_some(ConnectionEngine { phase, connection })
     }
 
     // Whether the engine goes on

@@ -1,6 +1,5 @@
 // The calls that open the connection: headers and the Open.
-ghost use Rattle.std.specs.Prelude.{◌≡◌, List, [], ℕ};
-ghost use Rattle.octets.specs.declared.Written.TheVariants.{Refused as NotWritten};
+ghost use Rattle.std.specs.Prelude.{◌≡◌, List, [], ℕ, Err};
 ghost use Rattle.connection.specs.View.{header_says};
 ghost use Rattle.endpoint.specs.Answers.{sent_says};
 ghost use Rattle.engine_model.specs.Engine.{send_header, receive_header, send_open};
@@ -9,15 +8,14 @@ ghost use Rattle.engine.specs.Promises.{Does};
 
 use crate::room::OUTPUT_ROOM;
 use crate::{ConnectionEngine, OpeningReceived, OpeningSent};
-use connection::HeaderAnswer;
-use octets::Written;
+use octets::Refusal;
 
 impl ConnectionEngine {
-    fn not_opening(self, k: u8) -> OpeningSent
-        ensures { (result.answer ≡ NotWritten k) × (result.engine ≡ self) }
+    fn not_opening(self, refusal: Refusal) -> OpeningSent
+        ensures { (result.answer ≡ Err refusal) × (result.engine ≡ self) }
     {
         OpeningSent {
-            answer: Written::Refused(k),
+            answer: Err(refusal),
             engine: self,
         }
     }
@@ -27,10 +25,10 @@ impl ConnectionEngine {
         ensures { (t id : List ℕ) → Does (send_header out.old) (whole self t id) (opening_says 0 (sent_count result.answer) (sent_says result.answer)) out.new (whole result.engine t id) }
     {
         if out.len() < OUTPUT_ROOM {
-            return self.not_opening(9);
+            return self.not_opening(Refusal::NoRoom);
         }
         if self.is_ending() {
-            return self.not_opening(20);
+            return self.not_opening(Refusal::IllegalState);
         }
         let phase = self.phase;
         let connection = self.connection;
@@ -46,15 +44,15 @@ impl ConnectionEngine {
         }
     }
 
-    // Writes the Open, with the container-id that is lent: the one of its settings, or else it may be refused with 8.
+    // Writes the Open, with the container-id that is lent: the one of its settings, or else it may be refused as `OutOfBounds`.
     pub fn send_open(self, container_id: &[u8], out: &mut [u8]) -> OpeningSent
         ensures { (t : List ℕ) → Does (send_open out.old) (whole self t container_id.now) (opening_says 0 (sent_count result.answer) (sent_says result.answer)) out.new (whole result.engine t container_id.now) }
     {
         if out.len() < OUTPUT_ROOM {
-            return self.not_opening(9);
+            return self.not_opening(Refusal::NoRoom);
         }
         if self.is_ending() {
-            return self.not_opening(20);
+            return self.not_opening(Refusal::IllegalState);
         }
         let phase = self.phase;
         let connection = self.connection;
@@ -76,7 +74,7 @@ impl ConnectionEngine {
     {
         if self.is_ending() {
             return OpeningReceived {
-                answer: HeaderAnswer::Refused(20),
+                answer: Err(Refusal::IllegalState),
                 engine: self,
             };
         }

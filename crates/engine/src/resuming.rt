@@ -14,45 +14,38 @@ use connection_state::ConnectionState;
 fn is_told(outcome: Outcome) -> bool
     ensures { result ≡ is_told (outcome_says outcome) }
 {
-    match outcome {
-        Outcome::Fine => false,
-        Outcome::TransportError => false,
-        Outcome::IllegalState => true,
-        Outcome::NotFound => true,
-        Outcome::NotImplemented => true,
-        Outcome::RemoteClosed => false,
-        Outcome::RemoteClosedWithError => false,
-    }
+    matches!(
+        outcome,
+        Outcome::IllegalState | Outcome::NotFound | Outcome::NotImplemented
+    )
 }
 
 // Whether the peer's Close can be awaited in a state.
 fn awaits(state: ConnectionState) -> bool
     ensures { result ≡ awaits (state_says state) }
 {
-    match state {
-        ConnectionState::ClosePipe => true,
-        ConnectionState::CloseSent => true,
-        ConnectionState::Discarding => true,
-        _ => false,
-    }
+    matches!(
+        state,
+        ConnectionState::ClosePipe | ConnectionState::CloseSent | ConnectionState::Discarding
+    )
 }
 
 // Whether an engine can stop in a state because of what is illegal there.
 fn may_be_illegal(state: ConnectionState) -> bool
     ensures { result ≡ is_one_of (stops_in illegal_state) (state_says state) }
 {
-    match state {
-        ConnectionState::Start => true,
-        ConnectionState::HeaderReceived => true,
-        ConnectionState::HeaderSent => true,
-        ConnectionState::HeaderExchange => true,
-        ConnectionState::OpenClosePipe => true,
-        ConnectionState::OpenReceived => true,
-        ConnectionState::ClosePipe => true,
-        ConnectionState::CloseSent => true,
-        ConnectionState::End => true,
-        _ => false,
-    }
+    matches!(
+        state,
+        ConnectionState::Start
+            | ConnectionState::HeaderReceived
+            | ConnectionState::HeaderSent
+            | ConnectionState::HeaderExchange
+            | ConnectionState::OpenClosePipe
+            | ConnectionState::OpenReceived
+            | ConnectionState::ClosePipe
+            | ConnectionState::CloseSent
+            | ConnectionState::End
+    )
 }
 
 // Whether an engine can stop in a state with an outcome.

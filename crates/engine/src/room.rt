@@ -2,12 +2,13 @@
 ghost use Rattle.std.specs.Prelude.{◌≡◌, ◌+◌, ◌*◌, ◌≤◌, leb, not};
 
 use connection::Connection;
+use octets::Refusal;
 
 // The room that an event asks of its lent output before it writes.
 pub(crate) const OUTPUT_ROOM: usize = Connection::MAX_FRAME_SIZE as usize;
 
 // The refusal of tables that are too short for the channels that the peer may use.
-pub(crate) const UNCOVERED: u8 = 8;
+pub(crate) const UNCOVERED: Refusal = Refusal::OutOfBounds;
 
 // Whether so much output is too little where so many bytes wait to be sent.
 pub fn lacks_room(output: usize, waiting: usize) -> bool

@@ -1,22 +1,19 @@
 // Session frames that go out.
-ghost use Rattle.std.specs.Prelude.{◌≡◌, List, ℕ, ◌≤◌, length};
-ghost use Rattle.std.proofs.Math.Option.{some};
-ghost use Rattle.octets.specs.declared.Written.TheVariants.{Refused as NotWritten};
+ghost use Rattle.std.specs.Prelude.{◌≡◌, List, ℕ, ◌≤◌, length, Err};
 ghost use Rattle.frame_decoder.specs.Frame.{size_of};
 ghost use Rattle.connection.specs.View as View;
 ghost use Rattle.engine.specs.Sending.{Drains, GoesOut, outgoing_from, trailed_in};
 ghost use Rattle.endpoint.specs.Answers.{sent_says};
 ghost use Rattle.engine_model.specs.Engine.{outgoing};
-ghost use Rattle.engine.specs.declared.Running.TheVariants.{Refused as NotRun};
 ghost use Rattle.engine.specs.Answers.{whole, reply_says, Bare};
 ghost use Rattle.engine.specs.Promises.{DoesIn};
 
-use crate::error::{on_error, outgoing_error};
+use crate::error::{is_of_input, on_error, outgoing_error};
 use crate::room::{OUTPUT_ROOM, UNCOVERED, advanced};
 use crate::settling::settle;
-use crate::{ConnectionEngine, Landed, OnOutgoing, Running, Trailed};
+use crate::{ConnectionEngine, Landed, OnOutgoing, Trailed};
 use connection::{Connection, Sent};
-use octets::Written;
+use octets::Refusal;
 
 // How many bytes the frame has that the bytes start with.
 pub(crate) fn frame_size(s: &[u8]) -> usize
@@ -40,15 +37,14 @@ pub(crate) fn send_waiting(
 {
     let mut sender = connection;
     let mut at: usize = 0;
-    let mut left = count;
     let mut written: usize = 0;
     let mut last: usize = 0;
-    while 0 < left {
+    for _sent in 0..count {
         let size = frame_size(&waiting[at..]);
         let sent = sender.send_session_frame(tables, &waiting[at..], &mut out[written..]);
         let answer = sent.answer;
         let reached = sent.connection;
-        let Written::Bytes(n) = answer else {
+        let Ok(n) = answer else {
             return Trailed {
                 answer,
                 written,
@@ -57,28 +53,27 @@ pub(crate) fn send_waiting(
         };
         sender = reached;
         at = advanced(at, size, waiting.len());
-        left -= 1;
         written = advanced(written, n, out.len());
         last = n;
     }
     Trailed {
-        answer: Written::Bytes(last),
+        answer: Ok(last),
         written,
         connection: sender,
     }
 }
 
-// What was to go out was refused with k, and the error path led here.
-fn landed_out(landed: Landed, k: u8) -> OnOutgoing
-    ensures { result ≡ outgoing_from landed k }
+// What was to go out was refused, and the error path led here.
+fn landed_out(landed: Landed, refusal: Refusal) -> OnOutgoing
+    ensures { result ≡ outgoing_from landed refusal }
 {
     let phase = landed.phase;
     let connection = landed.connection;
     let engine = ConnectionEngine { phase, connection };
     OnOutgoing {
-        running: engine.running(),
+        running: Ok(engine.running()),
         written: landed.written,
-        answer: Written::Refused(k),
+        answer: Err(refusal),
         engine,
     }
 }
@@ -91,72 +86,72 @@ pub(crate) fn gone_out(sent: Sent, written: usize, out: &mut [u8]) -> OnOutgoing
     let answer = sent.answer;
     let connection = sent.connection;
     match answer {
-        Written::Bytes(n) => {
+        Ok(n) => {
             let engine = settle(connection);
             OnOutgoing {
-                running: engine.running(),
+                running: Ok(engine.running()),
                 written: advanced(written, n, out.len()),
                 answer,
                 engine,
             }
         }
-        Written::Refused(k) => {
-            let landed = on_error(connection, outgoing_error(k), written, out);
-            landed_out(landed, k)
+        Err(refusal) => {
+            let landed = on_error(connection, outgoing_error(refusal), written, out);
+            landed_out(landed, refusal)
         }
     }
 }
 
 impl ConnectionEngine {
-    pub(crate) fn not_outgoing(self, k: u8) -> OnOutgoing
-        ensures { (result.running ≡ NotRun k) × (result.engine ≡ self) × (result.written ≡ 0) × (result.answer ≡ NotWritten k) }
+    pub(crate) fn not_outgoing(self, refusal: Refusal) -> OnOutgoing
+        ensures { (result.running ≡ Err refusal) × (result.engine ≡ self) × (result.written ≡ 0) × (result.answer ≡ Err refusal) }
     {
         OnOutgoing {
-            running: Running::Refused(k),
+            running: Err(refusal),
             written: 0,
-            answer: Written::Refused(k),
+            answer: Err(refusal),
             engine: self,
         }
     }
 
-    // Sends a session's frame, lent whole. Refusals from 20 on are the state's, and take the error path.
+    // Sends a session's frame, lent whole. A refusal that judges more than the input takes the error path.
     pub fn on_outgoing_session_frame(
         self,
         tables: &mut [u8],
         frame: &[u8],
         out: &mut [u8],
     ) -> OnOutgoing
-        ensures { ((id : List ℕ) → DoesIn (outgoing frame.now out.old) (whole self tables.old id) (reply_says result.running 0 result.written (some (sent_says result.answer))) out.new (whole result.engine tables.new id)) × Bare result.running 0 result.written (λ k. result.answer ≡ NotWritten k) }
+        ensures { ((id : List ℕ) → DoesIn (outgoing frame.now out.old) (whole self tables.old id) (reply_says result.running 0 result.written (Some (sent_says result.answer))) out.new (whole result.engine tables.new id)) × Bare result.running 0 result.written (λ e. result.answer ≡ Err e) }
     {
         if out.len() < OUTPUT_ROOM {
-            return self.not_outgoing(9);
+            return self.not_outgoing(Refusal::NoRoom);
         }
         let connection = self.connection;
         if !connection.is_covered(tables) {
             return self.not_outgoing(UNCOVERED);
         }
         if self.is_ending() {
-            return self.not_outgoing(20);
+            return self.not_outgoing(Refusal::IllegalState);
         }
         let sent = connection.send_session_frame(tables, frame, out);
         let answer = sent.answer;
         let after = sent.connection;
         match answer {
-            Written::Bytes(n) => {
+            Ok(n) => {
                 let engine = settle(after);
                 OnOutgoing {
-                    running: engine.running(),
+                    running: Ok(engine.running()),
                     written: n,
                     answer,
                     engine,
                 }
             }
-            Written::Refused(k) => {
-                if k < 20 {
-                    return self.not_outgoing(k);
+            Err(refusal) => {
+                if is_of_input(refusal) {
+                    return self.not_outgoing(refusal);
                 }
-                let landed = on_error(after, outgoing_error(k), 0, out);
-                landed_out(landed, k)
+                let landed = on_error(after, outgoing_error(refusal), 0, out);
+                landed_out(landed, refusal)
             }
         }
     }

@@ -1,16 +1,17 @@
 // The phase in which an event leaves the engine.
 ghost use Rattle.std.specs.Prelude.{◌≡◌};
 ghost use Rattle.connection_state.specs.Answers.{state_says};
-ghost use Rattle.endpoint.specs.Answers.{answer_says, role_says};
-ghost use Rattle.engine_model.specs.Engine.{phase_answered, closed_by, phase_read};
+ghost use Rattle.endpoint.specs.Answers.{came_says, answer_says, role_says};
+ghost use Rattle.engine_model.specs.Engine.{phase_answered, closed_by, phase_read, close_in};
 ghost use Rattle.engine.specs.Answers.{phase_says, outcome_says};
-ghost use Rattle.engine.specs.Promises.{Settles, close_of, awaited_by};
+ghost use Rattle.engine.specs.Promises.{Settles, awaited_by};
 
 use crate::error::{incoming_error, outcome_of};
 use crate::{ConnectionEngine, Outcome, Phase};
 use connection::Connection;
 use connection_state::ConnectionState;
 use endpoint::{FrameAnswer, Role};
+use octets::Refusal;
 
 // A Close was read in this state: the outcome, where none is at hand.
 fn closed_by(outcome: Outcome, state: ConnectionState, with_error: bool) -> Outcome
@@ -31,7 +32,7 @@ pub(crate) fn phase_read(
     reached: ConnectionState,
     state: ConnectionState,
 ) -> Phase
-    ensures { phase_says result ≡ phase_read (close_of (answer_says answer)) (state_says reached) (state_says state) }
+    ensures { phase_says result ≡ phase_read (close_in (came_says answer)) (state_says reached) (state_says state) }
 {
     if let FrameAnswer::Closed {
         consumed: _,
@@ -47,16 +48,23 @@ pub(crate) fn phase_read(
 }
 
 // The phase after a frame was read while the peer's Close is awaited.
-pub(crate) fn phase_awaited(kept: Outcome, connection: Connection, answer: FrameAnswer) -> Phase
+pub(crate) fn phase_awaited(
+    kept: Outcome,
+    connection: Connection,
+    answer: Result<FrameAnswer, Refusal>,
+) -> Phase
     ensures { phase_says result ≡ awaited_by (role_says connection.endpoint.role) (outcome_says kept) (state_says connection.local_state) (answer_says answer) }
 {
-    if let FrameAnswer::Refused(k) = answer {
-        return Phase::Stopped(outcome_of(incoming_error(connection.role(), k)));
-    }
+    let taken = match answer {
+        Err(refusal) => {
+            return Phase::Stopped(outcome_of(incoming_error(connection.role(), refusal)));
+        }
+        Ok(taken) => taken,
+    };
     if let FrameAnswer::Closed {
         consumed: _,
         with_error,
-    } = answer
+    } = taken
     {
         return Phase::Stopped(closed_by(kept, connection.state(), with_error));
     }
@@ -66,16 +74,16 @@ pub(crate) fn phase_awaited(kept: Outcome, connection: Connection, answer: Frame
 // The phase after a frame was read that a Close has answered.
 pub(crate) fn phase_answered(
     role: Role,
-    answer: FrameAnswer,
+    answer: Result<FrameAnswer, Refusal>,
     reached: ConnectionState,
     state: ConnectionState,
 ) -> Phase
     ensures { phase_says result ≡ phase_answered (role_says role) (state_says reached) (answer_says answer) (state_says state) }
 {
-    if let FrameAnswer::Refused(k) = answer {
-        return Phase::Stopped(outcome_of(incoming_error(role, k)));
+    match answer {
+        Err(refusal) => Phase::Stopped(outcome_of(incoming_error(role, refusal))),
+        Ok(taken) => phase_read(taken, reached, state),
     }
-    phase_read(answer, reached, state)
 }
 
 // After an event that went well, the engine goes on unless the connection is over.

@@ -3,7 +3,7 @@
 use mathlib.Core.Path.{◌≡◌, refl, sym, ◌∙◌, ap}
 use mathlib.Core.Bool.{Bool, true, false, cond}
 use mathlib.Core.List.{List}
-use mathlib.Core.Option.{none, some}
+use Rattle.std.specs.Prelude.{Option, None, Some}
 use Prim.Native.Nat.{ℕ}
 use lib.Dec.{eqb}
 use borrow.Author.Tests.{eq-eqb, ne_eqb}
@@ -12,19 +12,17 @@ use Rattle.engine_model.specs.Engine.{running, awaiting, stopped}
 use Rattle.engine.specs.declared.Outcome as E
 use Rattle.engine.specs.declared.Phase.{Phase}
 use Rattle.engine.specs.Answers.{outcome_says, phase_says}
-use Rattle.engine_bytes.specs.declared.numbers.OutcomeRead.{OutcomeRead}
-use Rattle.engine_bytes.specs.declared.numbers.OutcomeRead.TheVariants.{Is, Unknown}
 use Rattle.engine_bytes.specs.Bytes.{role_with, outcome_with, phase_bytes, in_phase, phase_with}
 use Rattle.engine_bytes.specs.Promises.{outcome_read}
 
 -- ---- role_with and outcome_with: a number that none has
 
-pub role_none : (k : ℕ) → (Unit {0} × (k ≡ 0 → ⊥)) × (k ≡ 1 → ⊥) → none ≡ role_with k
+pub role_none : (k : ℕ) → (Unit {0} × (k ≡ 0 → ⊥)) × (k ≡ 1 → ⊥) → None ≡ role_with k
 role_none k n = rw (ne_eqb k 0 n.0.1, ne_eqb k 1 n.1)
 
 pub outcome_none :
     (k : ℕ) → ((((((Unit {0} × (k ≡ 0 → ⊥)) × (k ≡ 1 → ⊥)) × (k ≡ 2 → ⊥)) × (k ≡ 3 → ⊥)) × (k ≡ 4 → ⊥)) × (k ≡ 5 → ⊥)) × (k ≡ 6 → ⊥)
-    → none ≡ outcome_with k
+    → None ≡ outcome_with k
 unfolding outcome_with
 outcome_none k n =
     rw (ne_eqb k 0 n.0.0.0.0.0.0.1, ne_eqb k 1 n.0.0.0.0.0.1, ne_eqb k 2 n.0.0.0.0.1, ne_eqb k 3 n.0.0.0.1, ne_eqb k 4 n.0.0.1, ne_eqb k 5 n.0.1, ne_eqb k 6 n.1)
@@ -32,35 +30,35 @@ outcome_none k n =
 -- ---- phase_with
 
 module _ (p o : ℕ) where
-  pub phase_runs : p ≡ 0 → o ≡ 0 → some running ≡ phase_with p o
+  pub phase_runs : p ≡ 0 → o ≡ 0 → Some running ≡ phase_with p o
   unfolding phase_with
   phase_runs e f = rw (eq-eqb p 0 e, eq-eqb o 0 f)
 
   -- a phase that runs keeps no outcome
-  pub phase_keeps : p ≡ 0 → (o ≡ 0 → ⊥) → none ≡ phase_with p o
+  pub phase_keeps : p ≡ 0 → (o ≡ 0 → ⊥) → None ≡ phase_with p o
   unfolding phase_with
   phase_keeps e f = rw (eq-eqb p 0 e, ne_eqb o 0 f)
 
-  module _ (r : OutcomeRead) (read : outcome_read r ≡ outcome_with o) where
-    pub phase_unread : (p ≡ 0 → ⊥) → r ≡ Unknown → none ≡ phase_with p o
+  module _ (r : Option E.Outcome) (read : outcome_read r ≡ outcome_with o) where
+    pub phase_unread : (p ≡ 0 → ⊥) → r ≡ None → None ≡ phase_with p o
     unfolding phase_with
     phase_unread z u = rw (ne_eqb p 0 z, sym read, u) (either (eqb p 1) (eqb p 2))
       where
-        either : (a b : Bool) → none ≡ cond a (in_phase awaiting none) (cond b (in_phase stopped none) none)
+        either : (a b : Bool) → None ≡ cond a (in_phase awaiting None) (cond b (in_phase stopped None) None)
         either true b = refl
         either false true = refl
         either false false = refl
 
-    pub phase_awaits : (x : E.Outcome) → r ≡ Is x → p ≡ 1 → some (awaiting (outcome_says x)) ≡ phase_with p o
+    pub phase_awaits : (x : E.Outcome) → r ≡ Some x → p ≡ 1 → Some (awaiting (outcome_says x)) ≡ phase_with p o
     unfolding phase_with
     phase_awaits x u e = rw (e, sym read, u)
 
-    pub phase_stops : (x : E.Outcome) → r ≡ Is x → p ≡ 2 → some (stopped (outcome_says x)) ≡ phase_with p o
+    pub phase_stops : (x : E.Outcome) → r ≡ Some x → p ≡ 2 → Some (stopped (outcome_says x)) ≡ phase_with p o
     unfolding phase_with
     phase_stops x u e = rw (e, sym read, u)
 
   -- a number that no phase has
-  pub phase_none : (p ≡ 0 → ⊥) → (p ≡ 1 → ⊥) → (p ≡ 2 → ⊥) → none ≡ phase_with p o
+  pub phase_none : (p ≡ 0 → ⊥) → (p ≡ 1 → ⊥) → (p ≡ 2 → ⊥) → None ≡ phase_with p o
   unfolding phase_with
   phase_none z a s = rw (ne_eqb p 0 z, ne_eqb p 1 a, ne_eqb p 2 s)
 

@@ -3,7 +3,7 @@
 use mathlib.Core.Path.{◌≡◌, refl, sym, ◌∙◌, ap, subst}
 use mathlib.Core.Bool.{Bool, true}
 use mathlib.Core.List.{List}
-use mathlib.Core.Option.{Option, none, some}
+use Rattle.std.specs.Prelude.{Option, None, Some}
 use Prim.Native.Nat.{ℕ, suc, ◌≤◌}
 use native.Mathlib.Omega.{arith}
 use lib.ListN.{length, drop, length-take, length-drop}
@@ -32,9 +32,9 @@ use Rattle.engine_bytes.specs.Bytes.{Fixed, at, version, id_at, tables_at, fixed
 pub record Says (s : List ℕ) (f : Fixed) : Type 0 where
   pub long : fixed_size ≤ length s
   pub named : at 0 4 s ≡ big_endian version
-  pub role_said : role_with (at 4 1 s) ≡ some f.role
-  pub phase_said : phase_with (at 16 1 s) (at 17 1 s) ≡ some f.phase
-  pub state_said : with_number (at 18 1 s) ≡ some f.state
+  pub role_said : role_with (at 4 1 s) ≡ Some f.role
+  pub phase_said : phase_with (at 16 1 s) (at 17 1 s) ≡ Some f.phase
+  pub state_said : with_number (at 18 1 s) ≡ Some f.state
   pub settings_said : settings_at s ≡ accept f.settings
   pub numbers_said : numbers_at s ≡ accept f.numbers
   pub reading_said : at 20 4 s ≡ f.reading_limit
@@ -46,12 +46,12 @@ pub record Says (s : List ℕ) (f : Fixed) : Type 0 where
 abbrev settings_of : Bool → List ℕ → Settings
 settings_of idle s = record { container_id = id_at s; max_frame_size = at 8 4 s; channel_max = at 6 2 s; idle_time_out = held idle (at 12 4 s) }
 
-or_some : {A : Type 0} (o : Option A) (a : A) → o ≡ some a → or_broken o ≡ accept a
+or_some : {A : Type 0} (o : Option A) (a : A) → o ≡ Some a → or_broken o ≡ accept a
 or_some o a e = ap or_broken e
 
-or_was : {A : Type 0} (o : Option A) (a : A) → or_broken o ≡ accept a → o ≡ some a
-or_was none a e = let z : ◌≡◌ {A = ℕ} 0 1 = cc in absurd (omega arith)
-or_was (some b) a e = let z : b ≡ a = cc in ap some z
+or_was : {A : Type 0} (o : Option A) (a : A) → or_broken o ≡ accept a → o ≡ Some a
+or_was None a e = let z : ◌≡◌ {A = ℕ} 0 1 = cc in absurd (omega arith)
+or_was (Some b) a e = let z : b ≡ a = cc in ap Some z
 
 pub says_fixed : (s : List ℕ) (f : Fixed) → Says s f → fixed_at s ≡ accept f
 unfolding fixed_at rest_at
@@ -70,8 +70,8 @@ says_fixed s f p =
 
 -- what was accepted, step by step
 fixed_part : (s : List ℕ) (role : Role) (phase : Phase) (x : State) (S : Settings) (n : OutgoingChannels) (f : Fixed)
-    → fixed_size ≤ length s → at 0 4 s ≡ big_endian version → role_with (at 4 1 s) ≡ some role → phase_with (at 16 1 s) (at 17 1 s) ≡ some phase
-    → with_number (at 18 1 s) ≡ some x → settings_at s ≡ accept S → numbers_at s ≡ accept n
+    → fixed_size ≤ length s → at 0 4 s ≡ big_endian version → role_with (at 4 1 s) ≡ Some role → phase_with (at 16 1 s) (at 17 1 s) ≡ Some phase
+    → with_number (at 18 1 s) ≡ Some x → settings_at s ≡ accept S → numbers_at s ≡ accept n
     → limits_ok S x (at 20 4 s) (at 24 4 s) (agreed_says n) ≡ true → covers (suc S.channel_max) (tables_at s) ≡ true → goes_with phase x ≡ true
     → accept (record { role = role; settings = S; phase = phase; state = x; reading_limit = at 20 4 s; writing_limit = at 24 4 s; numbers = n }) ≡ accept f → Says s f
 fixed_part s role phase x S n f long named r p q t u l c g e =

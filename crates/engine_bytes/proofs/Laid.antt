@@ -3,7 +3,7 @@
 use mathlib.Core.Path.{◌≡◌, refl, sym, ◌∙◌, ap, ap₂, subst}
 use mathlib.Core.Bool.{Bool, true, false}
 use mathlib.Core.List.{List, [], ◌∷◌, ◌++◌}
-use mathlib.Core.Option.{some}
+use Rattle.std.specs.Prelude.{Some}
 use Prim.Native.Nat.{ℕ, suc, ◌+◌, ◌*◌, ◌^◌, ◌≤◌, ◌<◌}
 use native.Mathlib.Omega.{arith}
 use native.Mathlib.Decide.{dec_le}
@@ -42,7 +42,7 @@ second running = 0
 second (awaiting o) = outcome_number o
 second (stopped o) = outcome_number o
 
-outcome_back : (o : Outcome) → outcome_with (outcome_number o) ≡ some o
+outcome_back : (o : Outcome) → outcome_with (outcome_number o) ≡ Some o
 unfolding outcome_with
 outcome_back fine = refl
 outcome_back transport_error = refl
@@ -52,7 +52,7 @@ outcome_back not_implemented = refl
 outcome_back remote_closed = refl
 outcome_back remote_closed_with_error = refl
 
-phase_back : (p : Phase) → phase_with (first p) (second p) ≡ some p
+phase_back : (p : Phase) → phase_with (first p) (second p) ≡ Some p
 unfolding phase_with
 phase_back running = refl
 phase_back (awaiting o) = ap (in_phase awaiting) (outcome_back o)
@@ -77,7 +77,7 @@ phase_second running l = one_number 0
 phase_second (awaiting o) l = one_number (outcome_number o)
 phase_second (stopped o) l = one_number (outcome_number o)
 
-pub role_back : (r : Role) → role_with (role_number r) ≡ some r
+pub role_back : (r : Role) → role_with (role_number r) ≡ Some r
 role_back dialler = refl
 role_back listener = refl
 
@@ -85,7 +85,7 @@ pub role_low : (r : Role) → role_number r < 256
 role_low dialler = omega arith
 role_low listener = omega arith
 
-flag_back : (b : Bool) → flag_with (one b) ≡ some b
+flag_back : (b : Bool) → flag_with (one b) ≡ Some b
 flag_back true = refl
 flag_back false = refl
 
@@ -186,11 +186,11 @@ module _ (f : Fixed) where
     found : (k w : ℕ) → k + w ≤ 26 → big_endian (take w (drop (16 + k) s')) ≡ big_endian (take w (drop k m))
     found k w le = ap big_endian (in_put s m 16 fits k w (omega (arith, moving_long)))
 
-    pub phase_laid : phase_with (at 16 1 s') (at 17 1 s') ≡ some f.phase
+    pub phase_laid : phase_with (at 16 1 s') (at 17 1 s') ≡ Some f.phase
     unfolding moving_bytes
     phase_laid = ap₂ phase_with (found 0 1 (omega arith) ∙ phase_first f.phase _) (found 1 1 (omega arith) ∙ phase_second f.phase _) ∙ phase_back f.phase
 
-    pub state_laid : with_number (at 18 1 s') ≡ some f.state
+    pub state_laid : with_number (at 18 1 s') ≡ Some f.state
     state_laid = ap with_number (found 2 1 (omega arith) ∙ number_in_lem m _ 2 1 _ d2 (state_low f.state)) ∙ numbered_back f.state
 
     pub reading_laid : at 20 4 s' ≡ f.reading_limit
@@ -202,7 +202,7 @@ module _ (f : Fixed) where
     pub numbers_laid : counts_ok n ≡ true → numbers_at s' ≡ accept n
     unfolding numbers_at
     numbers_laid ok =
-        let o : flag_with (at 19 1 s') ≡ some n.opened = ap flag_with (found 3 1 (omega arith) ∙ number_in_lem m _ 3 1 _ d3 (flag_low n.opened)) ∙ flag_back n.opened in
+        let o : flag_with (at 19 1 s') ≡ Some n.opened = ap flag_with (found 3 1 (omega arith) ∙ number_in_lem m _ 3 1 _ d3 (flag_low n.opened)) ∙ flag_back n.opened in
         let u : at 28 4 s' ≡ n.used = found 12 4 (omega arith) ∙ number_in_lem m _ 12 4 _ d12 r.used_low in
         let h : at 32 4 s' ≡ n.head = found 16 4 (omega arith) ∙ number_in_lem m _ 16 4 _ d16 r.head_low in
         let g : at 36 4 s' ≡ n.freed = found 20 4 (omega arith) ∙ number_in_lem m _ 20 4 _ d20 r.freed_low in
@@ -240,7 +240,7 @@ module _ (f : Fixed) where
     says_moved g p same_role same_settings ok limits goes = record {
       long = omega (arith, length_put s 16 m);
       named = same_before 0 4 (omega arith) ∙ p.named;
-      role_said = ap role_with (same_before 4 1 (omega arith)) ∙ p.role_said ∙ ap some (sym same_role);
+      role_said = ap role_with (same_before 4 1 (omega arith)) ∙ p.role_said ∙ ap Some (sym same_role);
       phase_said = phase_laid;
       state_said = state_laid;
       settings_said = settings_same ∙ p.settings_said ∙ ap accept (sym same_settings);

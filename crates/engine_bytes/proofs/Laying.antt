@@ -3,14 +3,13 @@
 use mathlib.Core.Path.{◌≡◌, refl, sym, ◌∙◌, ap}
 use mathlib.Core.Bool.{Bool}
 use mathlib.Core.List.{List, [], ◌++◌, append_assoc}
+use Rattle.std.specs.Prelude.{Option}
 use Prim.Native.Nat.{ℕ, ◌+◌, ◌-◌, ◌≤◌, ◌<◌}
 use native.Mathlib.Omega.{arith}
 use lib.ListN.{length, length-append}
 use Rattle.octets.specs.Octets.{bytes_of, put}
 use Rattle.octets.proofs.Laws.{length_bytes_of, put_not}
 use Rattle.layout.proofs.Parts.{Laid, first, more}
-use Rattle.frame_encoder.specs.declared.IdleTimeOut.{IdleTimeOut}
-use Rattle.frame_encoder.specs.Answers.{idle_said}
 use Rattle.connection_state.specs.declared.ConnectionState.{ConnectionState}
 use Rattle.connection_state.specs.States.{numbered}
 use Rattle.connection_state.specs.Answers.{state_says}
@@ -98,11 +97,11 @@ module _ (e : ConnectionEngine) (d : List ℕ) where
   settings_short h = sym (put_not d 0 (setting_bytes (fixed_in e [])) (omega (arith, setting_long (fixed_in e []))))
 
   pub settings_laid :
-      16 ≤ length d → (k : Connection) → k ≡ e.connection → (s : LocalOpen) → s ≡ k.endpoint.local_open → (idle : IdleTimeOut) → idle ≡ s.idle_time_out
+      16 ≤ length d → (k : Connection) → k ≡ e.connection → (s : LocalOpen) → s ≡ k.endpoint.local_open → (idle : Option ℕ) → idle ≡ s.idle_time_out
       → (a : List ℕ) → a ≡ put d 0 (bytes_of 4 0x48535032) → (role : Role) → role ≡ k.endpoint.role → (number : ℕ) → number ≡ role_number (role_says role)
-      → (b : List ℕ) → b ≡ put a 4 (bytes_of 1 number) → (there : Bool) → one there ≡ is_there (idle_said idle) → (flag : ℕ) → flag ≡ one there
+      → (b : List ℕ) → b ≡ put a 4 (bytes_of 1 number) → (there : Bool) → one there ≡ is_there idle → (flag : ℕ) → flag ≡ one there
       → (f : List ℕ) → f ≡ put b 5 (bytes_of 1 flag) → (highest : ℕ) → highest ≡ s.channel_max → (g : List ℕ) → g ≡ put f 6 (bytes_of 2 highest)
-      → (size : ℕ) → size ≡ s.max_frame_size → (j : List ℕ) → j ≡ put g 8 (bytes_of 4 size) → (millis : ℕ) → millis ≡ idle_number (idle_said idle)
+      → (size : ℕ) → size ≡ s.max_frame_size → (j : List ℕ) → j ≡ put g 8 (bytes_of 4 size) → (millis : ℕ) → millis ≡ idle_number idle
       → (o : List ℕ) → o ≡ put j 12 (bytes_of 4 millis) → o ≡ put d 0 (setting_bytes (fixed_in e []))
   unfolding setting_bytes
   settings_laid h k k-is s s-is idle idle_is a e1 role role_is number number_is b e2 there there-is flag flag_is f e3 highest highest_is g e4 size size_is j e5 millis millis-is o e6 =
@@ -110,10 +109,10 @@ module _ (e : ConnectionEngine) (d : List ℕ) where
       let idle-in : idle ≡ e.connection.endpoint.local_open.idle_time_out = idle_is ∙ ap (λ c. c.idle_time_out) s-in in
       let l1 = first d 0 4 version a refl (e1 ∙ ap (put d 0) version_bytes) in
       let l2 = number_more d 0 1 number _ (number_is ∙ ap (λ r. role_number (role_says r)) (role_is ∙ ap (λ c. c.endpoint.role) k-is)) 4 4 _ a b l1 refl (omega arith) e2 in
-      let l3 = number_more d 0 1 flag _ (flag_is ∙ there-is ∙ ap (λ i. is_there (idle_said i)) idle-in) 5 5 _ b f l2 refl (omega arith) e3 in
+      let l3 = number_more d 0 1 flag _ (flag_is ∙ there-is ∙ ap is_there idle-in) 5 5 _ b f l2 refl (omega arith) e3 in
       let l4 = number_more d 0 2 highest _ (highest_is ∙ ap (λ c. c.channel_max) s-in) 6 6 _ f g l3 refl (omega arith) e4 in
       let l5 = number_more d 0 4 size _ (size_is ∙ ap (λ c. c.max_frame_size) s-in) 8 8 _ g j l4 refl (omega arith) e5 in
-      let l6 = number_more d 0 4 millis _ (millis-is ∙ ap (λ i. idle_number (idle_said i)) idle-in) 12 12 _ j o l5 refl (omega arith) e6 in
+      let l6 = number_more d 0 4 millis _ (millis-is ∙ ap idle_number idle-in) 12 12 _ j o l5 refl (omega arith) e6 in
       simp append_assoc at l6.laid
 
 -- ---- write_new

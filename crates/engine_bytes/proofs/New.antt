@@ -3,7 +3,7 @@
 use mathlib.Core.Path.{◌≡◌, refl, ◌∙◌, ap, subst}
 use mathlib.Core.Bool.{Bool, true, false}
 use mathlib.Core.List.{List, ◌++◌}
-use mathlib.Core.Option.{Option, none, some}
+use Rattle.std.specs.Prelude.{Option, None, Some}
 use Prim.Native.Nat.{ℕ, suc, ◌+◌, ◌-◌, ◌^◌, ◌≤◌, ◌<◌}
 use native.Mathlib.Omega.{arith}
 use lib.ListN.{length, take, drop, length-append, length-drop}
@@ -32,20 +32,20 @@ pub record SettingsRoomy (S : Settings) : Type 0 where
   pub id_short : length S.container_id ≤ 255
 
 abbrev there : Option ℕ → Bool
-there none = false
-there (some n) = true
+there None = false
+there (Some n) = true
 
-there_back : (o : Option ℕ) → flag_with (is_there o) ≡ some (there o)
-there_back none = refl
-there_back (some n) = refl
+there_back : (o : Option ℕ) → flag_with (is_there o) ≡ Some (there o)
+there_back None = refl
+there_back (Some n) = refl
 
 there_low : (o : Option ℕ) → is_there o < 256
-there_low none = omega arith
-there_low (some n) = omega arith
+there_low None = omega arith
+there_low (Some n) = omega arith
 
 held_back : (o : Option ℕ) → held (there o) (idle_number o) ≡ o
-held_back none = refl
-held_back (some n) = refl
+held_back None = refl
+held_back (Some n) = refl
 
 module _ (f : Fixed) (r : Roomy f) (q : SettingsRoomy f.settings) where
   abbrev S : Settings
@@ -129,7 +129,7 @@ module _ (f : Fixed) (r : Roomy f) (q : SettingsRoomy f.settings) where
     settings_in : allowed S ≡ true → settings_at s' ≡ accept S
     unfolding settings_at
     settings_in ok =
-        let i : flag_with (at 5 1 s') ≡ some (there S.idle_time_out) = ap flag_with (found 5 1 (omega arith) ∙ number_in_lem a _ 5 1 _ d5 (there_low S.idle_time_out)) ∙ there_back S.idle_time_out in
+        let i : flag_with (at 5 1 s') ≡ Some (there S.idle_time_out) = ap flag_with (found 5 1 (omega arith) ∙ number_in_lem a _ 5 1 _ d5 (there_low S.idle_time_out)) ∙ there_back S.idle_time_out in
         let h : at 6 2 s' ≡ S.channel_max = found 6 2 (omega arith) ∙ number_in_lem a _ 6 2 _ d6 q.highest_low in
         let z : at 8 4 s' ≡ S.max_frame_size = found 8 4 (omega arith) ∙ number_in_lem a _ 8 4 _ d8 q.size_low in
         let t : at 12 4 s' ≡ idle_number S.idle_time_out = found 12 4 (omega arith) ∙ number_last a 12 4 _ d12 q.idle_low in
@@ -154,8 +154,8 @@ module _ (f : Fixed) (r : Roomy f) (q : SettingsRoomy f.settings) where
       long = long';
       named = found 0 4 (omega arith) ∙ named_in;
       role_said = ap role_with (found 4 1 (omega arith) ∙ number_in_lem a _ 4 1 _ d4 (role_low f.role)) ∙ role_back f.role;
-      phase_said = subst (λ l. phase_with (at 16 1 l) (at 17 1 l) ≡ some f.phase) again (phase_laid f r s' long');
-      state_said = subst (λ l. with_number (at 18 1 l) ≡ some f.state) again (state_laid f r s' long');
+      phase_said = subst (λ l. phase_with (at 16 1 l) (at 17 1 l) ≡ Some f.phase) again (phase_laid f r s' long');
+      state_said = subst (λ l. with_number (at 18 1 l) ≡ Some f.state) again (state_laid f r s' long');
       settings_said = settings_in ok;
       numbers_said = subst (λ l. numbers_at l ≡ accept f.numbers) again (numbers_laid f r s' long' counted);
       reading_said = subst (λ l. at 20 4 l ≡ f.reading_limit) again (reading_laid f r s' long');

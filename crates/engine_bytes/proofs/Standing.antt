@@ -3,7 +3,7 @@
 use mathlib.Core.Path.{◌≡◌, refl, sym, ◌∙◌, ap, subst}
 use mathlib.Core.Bool.{Bool, true, false}
 use mathlib.Core.List.{List, [], ◌++◌}
-use mathlib.Core.Option.{Option, none, some}
+use Rattle.std.specs.Prelude.{Option, None, Some}
 use Prim.Native.Nat.{ℕ, suc, ◌≤◌}
 use native.Mathlib.Omega.{arith}
 use lib.ListN.{length, take}
@@ -72,10 +72,10 @@ module _ (e : ConnectionEngine) (t id : List ℕ) (z : Sound (whole e t id)) whe
   highest_within = omega (arith, within.channel_high, z.held.most)
 
   limits_low : (o : Option ℕ) → agreed_says n ≡ o → (e.connection.endpoint.reading_limit ≤ 16384) × (e.connection.endpoint.writing_limit ≤ 16384)
-  limits_low none q =
+  limits_low None q =
       let f = (z.reached.unopened q).at_first in
       (omega (arith, ap (λ c. c.reading_limit) f), omega (arith, ap (λ c. c.writing_limit) f))
-  limits_low (some m) q =
+  limits_low (Some m) q =
       let a = z.reached.agreed m q in
       (omega (arith, a.reading_own, within.size_high), a.writing_high)
 

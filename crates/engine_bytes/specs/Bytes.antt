@@ -7,8 +7,7 @@
 --     12  4  idle-time-out                         24  4  writing limit                                300  the tables
 --                                                  28  4  how many channels were ever handed out
 -- Assumes nothing: these are definitions.
-use Rattle.std.specs.Prelude.{◌≡◌, Bool, true, false, cond, List, [], ◌∷◌, ◌++◌, ℕ, suc, ◌+◌, ◌*◌, leb, eqb, length, take, drop}
-use Rattle.std.proofs.Math.Option.{Option, none, some}
+use Rattle.std.specs.Prelude.{◌≡◌, Bool, true, false, cond, List, [], ◌∷◌, ◌++◌, ℕ, suc, ◌+◌, ◌*◌, leb, eqb, length, take, drop, Option, None, Some}
 use Rattle.octets.specs.Octets.{big_endian, bytes_of}
 use Rattle.octets.specs.Verdict.{Verdict, refuse, accept, require, and_then}
 use Rattle.frame_encoder.specs.Frames.{Settings}
@@ -33,7 +32,7 @@ role_number dialler = 0
 role_number listener = 1
 
 abbrev pub role_with : ℕ → Option Role
-role_with n = cond (eqb n 0) (some dialler) (cond (eqb n 1) (some listener) none)
+role_with n = cond (eqb n 0) (Some dialler) (cond (eqb n 1) (Some listener) None)
 
 abbrev pub outcome_number : Outcome → ℕ
 outcome_number fine = 0
@@ -45,8 +44,8 @@ outcome_number remote_closed = 5
 outcome_number remote_closed_with_error = 6
 
 abbrev pub outcome_in : List Outcome → ℕ → Option Outcome
-outcome_in [] n = none
-outcome_in (o ∷ os) n = cond (eqb n (outcome_number o)) (some o) (outcome_in os n)
+outcome_in [] n = None
+outcome_in (o ∷ os) n = cond (eqb n (outcome_number o)) (Some o) (outcome_in os n)
 
 unfoldable pub outcome_with : ℕ → Option Outcome
 outcome_with n = outcome_in (fine ∷ transport_error ∷ illegal_state ∷ not_found ∷ not_implemented ∷ remote_closed ∷ remote_closed_with_error ∷ []) n
@@ -57,18 +56,18 @@ phase_bytes (awaiting o) = 1 ∷ outcome_number o ∷ []
 phase_bytes (stopped o) = 2 ∷ outcome_number o ∷ []
 
 abbrev pub in_phase : (Outcome → Phase) → Option Outcome → Option Phase
-in_phase p none = none
-in_phase p (some o) = some (p o)
+in_phase p None = None
+in_phase p (Some o) = Some (p o)
 
 unfoldable pub phase_with : ℕ → ℕ → Option Phase
 phase_with p o =
-    cond (eqb p 0) (cond (eqb o 0) (some running) none)
+    cond (eqb p 0) (cond (eqb o 0) (Some running) None)
     (cond (eqb p 1) (in_phase awaiting (outcome_with o))
-    (cond (eqb p 2) (in_phase stopped (outcome_with o)) none))
+    (cond (eqb p 2) (in_phase stopped (outcome_with o)) None))
 
 -- a flag: 0 is no and 1 is yes
 abbrev pub flag_with : ℕ → Option Bool
-flag_with n = cond (eqb n 0) (some false) (cond (eqb n 1) (some true) none)
+flag_with n = cond (eqb n 0) (Some false) (cond (eqb n 1) (Some true) None)
 
 -- ---- the fixed part
 
@@ -99,8 +98,8 @@ tables_at s = drop fixed_size s
 
 -- what no engine has is broken: 8
 abbrev pub or_broken : {A : Type 0} → Option A → Verdict A
-or_broken none = refuse 8
-or_broken (some a) = accept a
+or_broken None = refuse 8
+or_broken (Some a) = accept a
 
 -- the settings, within their limits
 unfoldable pub settings_at : List ℕ → Verdict Settings
@@ -167,12 +166,12 @@ moving_bytes f =
     ++ number_bytes f.numbers))))
 
 abbrev pub idle_number : Option ℕ → ℕ
-idle_number none = 0
-idle_number (some n) = n
+idle_number None = 0
+idle_number (Some n) = n
 
 abbrev pub is_there : Option ℕ → ℕ
-is_there none = 0
-is_there (some n) = 1
+is_there None = 0
+is_there (Some n) = 1
 
 -- from 0 on: what no call changes, but for the container-id
 unfoldable pub setting_bytes : Fixed → List ℕ

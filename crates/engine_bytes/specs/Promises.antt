@@ -1,25 +1,17 @@
 -- What reading an engine from bytes and laying it promise.
 -- Assumes nothing: these are definitions.
-use Rattle.std.specs.Prelude.{cond, List, ℕ}
-use Rattle.std.proofs.Math.Option.{Option, none, some}
+use Rattle.std.specs.Prelude.{List, ℕ, Option, None, Some}
 use Rattle.octets.specs.Verdict.{Verdict, refuse, accept}
 use Rattle.connection_model.specs.Connection.{Role}
 use Rattle.connection_state.specs.Answers.{state_says}
-use Rattle.channels.specs.declared.OutgoingChannels.{OutgoingChannels}
-use Rattle.channels.specs.declared.Resumed.{Resumed}
 use Rattle.local_open.specs.Settings.{open_says}
 use Rattle.endpoint.specs.Answers.{role_says}
 use Rattle.engine_model.specs.Engine as M
+use Rattle.endpoint.specs.declared.Role.{Role as RoleOf}
 use Rattle.engine.specs.declared.ConnectionEngine.{ConnectionEngine}
+use Rattle.engine.specs.declared.Outcome.{Outcome}
+use Rattle.engine.specs.declared.Phase.{Phase}
 use Rattle.engine.specs.Answers.{outcome_says, phase_says}
-use Rattle.engine_bytes.specs.declared.numbers.OutcomeRead.{OutcomeRead}
-use Rattle.engine_bytes.specs.declared.numbers.OutcomeRead.TheVariants as O
-use Rattle.engine_bytes.specs.declared.numbers.PhaseRead.{PhaseRead}
-use Rattle.engine_bytes.specs.declared.numbers.PhaseRead.TheVariants as P
-use Rattle.engine_bytes.specs.declared.numbers.RoleRead.{RoleRead}
-use Rattle.engine_bytes.specs.declared.numbers.RoleRead.TheVariants as R
-use Rattle.engine.specs.declared.ResumedEngine.{ResumedEngine}
-use Rattle.engine.specs.declared.ResumedEngine.TheVariants.{Is, Broken}
 use Rattle.engine_bytes.specs.Bytes.{Fixed}
 
 -- what is fixed of an engine with its container-id
@@ -34,21 +26,18 @@ fixed_in e id = record {
   numbers = e.connection.endpoint.outgoing;
 }
 
-abbrev pub read_says : List ℕ → ResumedEngine → Verdict Fixed
-read_says id (Is e) = accept (fixed_in e id)
-read_says id Broken = refuse 8
+abbrev pub read_says : List ℕ → Option ConnectionEngine → Verdict Fixed
+read_says id (Some e) = accept (fixed_in e id)
+read_says id None = refuse 8
 
-abbrev pub outcome_read : OutcomeRead → Option M.Outcome
-outcome_read (O.Is o) = some (outcome_says o)
-outcome_read O.Unknown = none
+abbrev pub outcome_read : Option Outcome → Option M.Outcome
+outcome_read (Some o) = Some (outcome_says o)
+outcome_read None = None
 
-abbrev pub phase_read : PhaseRead → Option M.Phase
-phase_read (P.Is p) = some (phase_says p)
-phase_read P.Unknown = none
+abbrev pub phase_read : Option Phase → Option M.Phase
+phase_read (Some p) = Some (phase_says p)
+phase_read None = None
 
-abbrev pub role_read : RoleRead → Option Role
-role_read (R.Is r) = some (role_says r)
-role_read R.Unknown = none
-
-abbrev pub counts_says : Resumed → Verdict OutgoingChannels
-counts_says r = cond r.fine (accept r.channels) (refuse 8)
+abbrev pub role_read : Option RoleOf → Option Role
+role_read (Some r) = Some (role_says r)
+role_read None = None

@@ -6,25 +6,24 @@ pub mod numbers;
 ghost use Rattle.std.specs.Prelude.{◌≡◌, [], ◌+◌, ◌≤◌, length};
 ghost use Rattle.octets.specs.Octets.{put};
 ghost use Rattle.layout.specs.Layout.{held};
-ghost use Rattle.frame_encoder.specs.Answers.{idle_said};
 ghost use Rattle.channels.specs.Numbers.{one};
 ghost use Rattle.connection_state.specs.Answers.{state_says};
 ghost use Rattle.local_open.specs.Settings.{new_says};
 ghost use Rattle.endpoint.specs.Answers.{role_says};
 ghost use Rattle.engine.specs.Answers.{phase_says};
-ghost use Rattle.engine_bytes.specs.Bytes.{at, id_at, settings_at, numbers_at, rest_at, fixed_at, number_bytes, moving_bytes, setting_bytes, fixed_bytes};
-ghost use Rattle.engine_bytes.specs.Promises.{fixed_in, read_says, counts_says};
+ghost use Rattle.engine_bytes.specs.Bytes.{at, or_broken, id_at, settings_at, numbers_at, rest_at, fixed_at, number_bytes, moving_bytes, setting_bytes, fixed_bytes};
+ghost use Rattle.engine_bytes.specs.Promises.{fixed_in, read_says};
 
+use channels::OutgoingChannels;
 use channels::places::covers;
-use channels::{OutgoingChannels, Resumed};
-use connection::{Connection, ResumedConnection};
-use connection_state::{ConnectionState, NumberedState};
+use connection::Connection;
+use connection_state::ConnectionState;
 use endpoint::Role;
-use engine::{ConnectionEngine, Phase, ResumedEngine};
-use frame_encoder::IdleTimeOut;
-use local_open::{LocalOpen, NewOpen};
-use numbers::{PhaseRead, RoleRead, put_phase, role_number};
-use octets::{copy, number, put_number};
+use engine::{ConnectionEngine, Phase};
+use frame_encoder::Settings;
+use local_open::LocalOpen;
+use numbers::{put_phase, role_number};
+use octets::{Refusal, copy, number, put_number};
 
 // How many bytes the fixed part has: the tables stand behind it.
 pub const FIXED_SIZE: usize = 300;
@@ -38,6 +37,7 @@ pub const ID: usize = 44;
 const ID_MAX: usize = 255;
 
 // The number in two bytes from a place on.
+// Two functions and not one for any width: that would answer in a u64, which each call would narrow, with a proof that it fits.
 fn two_at(s: &[u8], i: usize) -> u16
     requires { i + 2 ≤ length s.now }
     ensures { result ≡ at i 2 s.now }
@@ -56,44 +56,43 @@ fn four_at(s: &[u8], i: usize) -> u32
 }
 
 // An idle-time-out that is there or not.
-fn idle_of(there: bool, millis: u32) -> IdleTimeOut
-    ensures { idle_said result ≡ held there millis }
+fn idle_of(there: bool, millis: u32) -> Option<u32>
+    ensures { result ≡ held there millis }
 {
-    if there {
-        return IdleTimeOut::Millis(millis);
-    }
-    IdleTimeOut::Never
+    there.then_some(millis)
 }
 
 // The settings of a fixed part, if they are within their limits.
-fn read_open(s: &[u8]) -> NewOpen
+fn read_open(s: &[u8]) -> Result<LocalOpen, Refusal>
     requires { 300 ≤ length s.now }
     ensures { new_says (id_at s.now) result ≡ settings_at s.now }
 {
     let there = s[5];
     if 1 < there {
-        return NewOpen::Refused(8);
+        return Err(Refusal::OutOfBounds);
     }
     let n = two_at(s, 42) as usize;
     if ID_MAX < n {
-        return NewOpen::Refused(8);
+        return Err(Refusal::OutOfBounds);
     }
     let end = ID + n;
-    let idle = idle_of(there == 1, four_at(s, 12));
-    LocalOpen::new(&s[ID..end], four_at(s, 8), two_at(s, 6), idle)
+    let settings = Settings {
+        container_id: &s[ID..end],
+        max_frame_size: four_at(s, 8),
+        channel_max: two_at(s, 6),
+        idle_time_out: idle_of(there == 1, four_at(s, 12)),
+    };
+    LocalOpen::new(&settings)
 }
 
 // The counts of a fixed part, if they are within their limits.
-fn read_counts(s: &[u8]) -> Resumed
+fn read_counts(s: &[u8]) -> Option<OutgoingChannels>
     requires { 300 ≤ length s.now }
-    ensures { counts_says result ≡ numbers_at s.now }
+    ensures { or_broken result ≡ numbers_at s.now }
 {
     let agreed = s[19];
     if 1 < agreed {
-        return Resumed {
-            fine: false,
-            channels: OutgoingChannels::new(),
-        };
+        return None;
     }
     OutgoingChannels::resumed(
         agreed == 1,
@@ -104,49 +103,36 @@ fn read_counts(s: &[u8]) -> Resumed
     )
 }
 
-// The engine that bytes stand for.
-pub fn from_bytes(s: &[u8]) -> ResumedEngine
+// The engine that bytes stand for, if they stand for one.
+pub fn from_bytes(s: &[u8]) -> Option<ConnectionEngine>
     ensures { read_says (id_at s.now) result ≡ fixed_at s.now }
 {
     if s.len() < FIXED_SIZE {
-        return ResumedEngine::Broken;
+        return None;
     }
     if four_at(s, 0) != VERSION {
-        return ResumedEngine::Broken;
+        return None;
     }
-    let RoleRead::Is(role) = numbers::role_with(s[4]) else {
-        return ResumedEngine::Broken;
-    };
-    let PhaseRead::Is(phase) = numbers::phase_with(s[16], s[17]) else {
-        return ResumedEngine::Broken;
-    };
-    let NumberedState::Is(state) = ConnectionState::with_number(s[18]) else {
-        return ResumedEngine::Broken;
-    };
+    let role = numbers::role_with(s[4])?;
+    let phase = numbers::phase_with(s[16], s[17])?;
+    let state = ConnectionState::with_number(s[18])?;
     read_rest(s, role, phase, state)
 }
 
-// The engine in a role, a phase and a state whose other numbers stand in the bytes.
-fn read_rest(s: &[u8], role: Role, phase: Phase, state: ConnectionState) -> ResumedEngine
+// The engine in a role, a phase and a state whose other numbers stand in the bytes, if there is one.
+fn read_rest(s: &[u8], role: Role, phase: Phase, state: ConnectionState) -> Option<ConnectionEngine>
     requires { 300 ≤ length s.now }
     ensures { read_says (id_at s.now) result ≡ rest_at (role_says role) (phase_says phase) (state_says state) s.now }
 {
-    let NewOpen::Taken(open) = read_open(s) else {
-        return ResumedEngine::Broken;
+    let Ok(open) = read_open(s) else {
+        return None;
     };
-    let counts = read_counts(s);
-    if !counts.fine {
-        return ResumedEngine::Broken;
-    }
+    let outgoing = read_counts(s)?;
     if !covers(&s[FIXED_SIZE..], open.channel_max()) {
-        return ResumedEngine::Broken;
+        return None;
     }
-    let outgoing = counts.channels;
     let reading = four_at(s, 20);
-    let resumed = Connection::resumed(state, role, open, reading, four_at(s, 24), outgoing);
-    let ResumedConnection::Is(connection) = resumed else {
-        return ResumedEngine::Broken;
-    };
+    let connection = Connection::resumed(state, role, open, reading, four_at(s, 24), outgoing)?;
     ConnectionEngine::resumed(phase, connection)
 }
 
@@ -166,10 +152,7 @@ fn put_counts(outgoing: OutgoingChannels, out: &mut [u8])
 fn flag(b: bool) -> u64
     ensures { result ≡ one b }
 {
-    if b {
-        return 1;
-    }
-    0
+    u64::from(b)
 }
 
 // Lays what calls can change of an engine from 16 on, if it fits there.

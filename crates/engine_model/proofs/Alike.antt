@@ -3,7 +3,7 @@
 use mathlib.Core.Path.{◌≡◌, refl, ap, ap₂, subst}
 use mathlib.Core.Bool.{Bool, true, false, cond, not, ◌&&◌}
 use mathlib.Core.List.{List, [], ◌∷◌, ◌++◌}
-use mathlib.Core.Option.{Option, none, some}
+use Rattle.std.specs.Prelude.{Option, None, Some}
 use Prim.Native.Nat.{ℕ}
 use lib.Dec.{eqb}
 use lib.ListN.{length}
@@ -85,12 +85,12 @@ module _ (role : Role) (S : Settings) where
   -- ---- where an event lands
 
   same_fail : (f : Option Fault) {c d : Connection} → Alike c d → (bytes out : List ℕ) → SameLanding (fail role S f c bytes out) (fail role S f d bytes out)
-  same_fail none a bytes out = record { phase = refl; bytes = refl; inside = a }
-  same_fail (some f) {c} {d} a bytes out =
+  same_fail None a bytes out = record { phase = refl; bytes = refl; inside = a }
+  same_fail (Some f) {c} {d} a bytes out =
       subst (λ v. SameLanding (failed S f.outcome c bytes (decide role S c the_close)) (failed S f.outcome d bytes v)) (alike_verdict role S a the_close) (by (decide role S c the_close) refl)
     where
       the_close : Call
-      the_close = send_close_to (some f.error) out
+      the_close = send_close_to (Some f.error) out
 
       by : (v : Verdict M.Outcome) → decide role S c the_close ≡ v → SameLanding (failed S f.outcome c bytes v) (failed S f.outcome d bytes v)
       by (refuse k) q = record { phase = ap (λ x. cond (eqb k 20) (E.unclosed f.outcome x) (stopped E.transport_error)) a.state; bytes = refl; inside = a }
@@ -123,7 +123,7 @@ module _ (role : Role) (S : Settings) where
       → SameLanding (answering role S waiting out close v c) (answering role S waiting out close v d)
   same_answering waiting out true v {c} {d} a =
       same_along out (λ c' bytes. landing (phase_answered role c.state v c'.state) c' bytes) (λ d' bytes. landing (phase_answered role d.state v d'.state) d' bytes)
-      (λ c' d' bytes b. record { phase = phase_answered_lem v c.state _ d.state _ a.state b.state; bytes = refl; inside = b }) _ _ (same_trail (sending waiting none out) (wrote 0) a)
+      (λ c' d' bytes b. record { phase = phase_answered_lem v c.state _ d.state _ a.state b.state; bytes = refl; inside = b }) _ _ (same_trail (sending waiting None out) (wrote 0) a)
   same_answering waiting out false v {c} {d} a = same_read_to out c.state d.state a.state v [] a
 
   same_received :
@@ -153,8 +153,8 @@ module _ (role : Role) (S : Settings) where
 
   same_ends : (out : List ℕ) (p : Phase) {c d : Connection} → Alike c d → SameLanding (input_ends role S out c p) (input_ends role S out d p)
   same_ends out running {c} {d} a =
-      subst (λ x. SameLanding (input_ends role S out c running) (cond (is_one_of (ClosePipe ∷ Discarding ∷ End ∷ []) x) (landing (stopped E.fine) d []) (E.cut (fail role S (some illegal) d [] out)))) a.state
-      (same_either (is_one_of (ClosePipe ∷ Discarding ∷ End ∷ []) c.state) _ _ _ _ (record { phase = refl; bytes = refl; inside = a }) (same_cut _ _ (same_fail (some illegal) a [] out)))
+      subst (λ x. SameLanding (input_ends role S out c running) (cond (is_one_of (ClosePipe ∷ Discarding ∷ End ∷ []) x) (landing (stopped E.fine) d []) (E.cut (fail role S (Some illegal) d [] out)))) a.state
+      (same_either (is_one_of (ClosePipe ∷ Discarding ∷ End ∷ []) c.state) _ _ _ _ (record { phase = refl; bytes = refl; inside = a }) (same_cut _ _ (same_fail (Some illegal) a [] out)))
   same_ends out (awaiting kept) a = record { phase = refl; bytes = refl; inside = a }
   same_ends out (stopped kept) a = record { phase = refl; bytes = refl; inside = a }
 
@@ -162,7 +162,7 @@ module _ (role : Role) (S : Settings) where
 
   same_goes : (out : List ℕ) (t u : Trail) → SameTrail t u → SameResult (goes role S out t) (goes role S out u)
   same_goes out t u r =
-      subst (λ l. SameResult (goes role S out t) (accept (record { lands = onward role S out settles u; consumed = 0; inner = some l }))) r.last
+      subst (λ l. SameResult (goes role S out t) (accept (record { lands = onward role S out settles u; consumed = 0; inner = Some l }))) r.last
       (both_accept (same_along out settles settles (λ c d bytes b. record { phase = ap settled b.state; bytes = refl; inside = b }) t u r))
     where
       settles : Connection → List ℕ → Landing
@@ -176,7 +176,7 @@ module _ (role : Role) (S : Settings) where
         require 20 (not (E.is_stopped p)) (λ _.
         require 1 (not (lacks v)) (λ _.
         and_then (session_frames S.channel_max w) (λ n.
-        E.results (reads role S (frames_in n w) out (is_close (read_frame limit S.channel_max s)) v (record { phase = p; connection = x })) (consumed_of s (answered v)) (some (answered v))))))
+        E.results (reads role S (frames_in n w) out (is_close (read_frame limit S.channel_max s)) v (record { phase = p; connection = x })) (consumed_of s (answered v)) (Some (answered v))))))
 
     same_incoming : (s : List ℕ) (h : ℕ) (w out : List ℕ) → SameResult (judge role S (record { phase = p; connection = c }) (incoming s h w out)) (judge role S (record { phase = p; connection = d }) (incoming s h w out))
     same_incoming s h w out =
@@ -200,7 +200,7 @@ module _ (role : Role) (S : Settings) where
         same_require 9 _ _ _ (same_require 20 _ _ _ (same_then (session_frame S.channel_max s) _ _ (λ r. same_goes out _ _ (same_trail (send_session_frame s out ∷ []) (wrote 0) a))))
     same_judge (tick out) = same_require 9 _ _ _ (same_require 20 _ _ _ (same_call a (M.tick out) _ _ (λ w b. both_accept (record { phase = ap settled b.state; bytes = refl; inside = b }))))
     same_judge (end_of_input out) = same_require 9 _ _ _ (same_require 20 _ _ _ (both_accept (same_ends out p a)))
-    same_judge (not_delivered new out) = same_require 9 _ _ _ (same_require 20 _ _ _ (both_accept (same_fail (some (undelivered role new)) a [] out)))
+    same_judge (not_delivered new out) = same_require 9 _ _ _ (same_require 20 _ _ _ (both_accept (same_fail (Some (undelivered role new)) a [] out)))
 
   judged : {e f : Engine} → AlikeInside e f → (event : Event) → SameResult (judge role S e event) (judge role S f event)
   judged {e} {f} a event =

@@ -4,7 +4,7 @@
 use mathlib.Core.Path.{◌≡◌, refl, sym, ◌∙◌, ap, ap₂, subst}
 use mathlib.Core.Bool.{Bool, true, false, cond, ◌&&◌}
 use mathlib.Core.List.{List, [], ◌∷◌, ◌++◌, append_assoc, append-nil}
-use mathlib.Core.Option.{Option, none, some}
+use Rattle.std.specs.Prelude.{Option, None, Some}
 use Prim.Native.Nat.{ℕ, zero, suc, ◌<◌}
 use native.Mathlib.Omega.{arith}
 use lib.Dec.{T, ltb, eqb, ltb→lt}
@@ -151,8 +151,8 @@ sending_valid (suc n) s e out p q o =
 -- ---- faults
 
 abbrev may_fault : Option Fault → Bool
-may_fault none = true
-may_fault (some f) = may_text (some f.error)
+may_fault None = true
+may_fault (Some f) = may_text (Some f.error)
 
 cond_fault : (b : Bool) (f g : Option Fault) → may_fault f ≡ true → may_fault g ≡ true → may_fault (cond b f g) ≡ true
 cond_fault true f g p q = p
@@ -168,7 +168,7 @@ read_valid role k = cond_fault (eqb k 20) _ _ refl (cond_fault (eqb k 24) _ _ re
 send_valid : (k : ℕ) → may_fault (send_fault k) ≡ true
 send_valid k = cond_fault (eqb k 20) _ _ refl (cond_fault (eqb k 24) _ _ refl refl)
 
-undelivered_valid : (role : Role) (new : Bool) → may_fault (some (undelivered role new)) ≡ true
+undelivered_valid : (role : Role) (new : Bool) → may_fault (Some (undelivered role new)) ≡ true
 undelivered_valid listener true = refl
 undelivered_valid listener false = refl
 undelivered_valid dialler new = refl
@@ -193,12 +193,12 @@ module _ (role : Role) (S : Settings) where
   -- with an output that is a slice
   module _ (out : List ℕ) (o : is_slice out ≡ true) where
     fail_made : (b : Connection) (f : Option Fault) → may_fault f ≡ true → (c : Connection) (bytes : List ℕ) → Made role S b c bytes → MadeTo b (fail role S f c bytes out)
-    fail_made b none p c bytes m = m
-    fail_made b (some f) p c bytes m = by (decide role S c (send_close_to (some f.error) out)) refl
+    fail_made b None p c bytes m = m
+    fail_made b (Some f) p c bytes m = by (decide role S c (send_close_to (Some f.error) out)) refl
       where
-        by : (v : Verdict M.Outcome) → decide role S c (send_close_to (some f.error) out) ≡ v → MadeTo b (failed S f.outcome c bytes v)
+        by : (v : Verdict M.Outcome) → decide role S c (send_close_to (Some f.error) out) ≡ v → MadeTo b (failed S f.outcome c bytes v)
         by (refuse k) q = m
-        by (accept w) q = then_made role S m (call_made role S c (send_close_to (some f.error) out) (both _ _ p o) (accept w) q)
+        by (accept w) q = then_made role S m (call_made role S c (send_close_to (Some f.error) out) (both _ _ p o) (accept w) q)
 
     onward_made :
         (b : Connection) (rest : Connection → List ℕ → Landing) (v : Verdict Answer) (c : Connection) (bytes : List ℕ) → Made role S b c bytes
@@ -220,9 +220,9 @@ module _ (role : Role) (S : Settings) where
         onward_made b rest t.last t.connection t.bytes w (n t.connection t.bytes w)
 
     answering_made :
-        (waiting : List (List ℕ)) → C.Valid (sending waiting none out) → (b : Connection) (close : Bool) (v : Verdict Answer) (c : Connection) → Made role S b c []
+        (waiting : List (List ℕ)) → C.Valid (sending waiting None out) → (b : Connection) (close : Bool) (v : Verdict Answer) (c : Connection) → Made role S b c []
         → MadeTo b (answering role S waiting out close v c)
-    answering_made waiting ok b true v c m = along_made b c m (sending waiting none out) ok (λ c' bytes. landing (phase_answered role c.state v c'.state) c' bytes) (λ d bytes n. n)
+    answering_made waiting ok b true v c m = along_made b c m (sending waiting None out) ok (λ c' bytes. landing (phase_answered role c.state v c'.state) c' bytes) (λ d bytes n. n)
     answering_made waiting ok b false v c m = read_to_made b c.state v c [] m
 
     awaited_made : (kept : E.Outcome) (v : Verdict M.Outcome) (c : Connection) → Made role S c (after S v c) [] → MadeTo c (awaited role S kept c v)
@@ -230,7 +230,7 @@ module _ (role : Role) (S : Settings) where
     awaited_made kept (accept w) c m = m
 
     reads_made :
-        (waiting : List (List ℕ)) → C.Valid (sending waiting none out) → (close : Bool) (v : Verdict M.Outcome) (p : Phase) (c : Connection) → Made role S c (after S v c) []
+        (waiting : List (List ℕ)) → C.Valid (sending waiting None out) → (close : Bool) (v : Verdict M.Outcome) (p : Phase) (c : Connection) → Made role S c (after S v c) []
         → MadeTo c (reads role S waiting out close v (record { phase = p; connection = c }))
     reads_made waiting ok close v running c m = answering_made waiting ok c (close && is CloseReceived (after S v c).state) (answered v) (after S v c) m
     reads_made waiting ok close v (awaiting kept) c m = awaited_made kept v c m
@@ -242,7 +242,7 @@ module _ (role : Role) (S : Settings) where
 
     ends_made : (c : Connection) (p : Phase) → MadeTo c (input_ends role S out c p)
     ends_made c running =
-        cond_made c (is_one_of (ClosePipe ∷ Discarding ∷ End ∷ []) c.state) _ _ (none_made role S c) (fail_made c (some illegal) refl c [] (none_made role S c))
+        cond_made c (is_one_of (ClosePipe ∷ Discarding ∷ End ∷ []) c.state) _ _ (none_made role S c) (fail_made c (Some illegal) refl c [] (none_made role S c))
     ends_made c (awaiting kept) = none_made role S c
     ends_made c (stopped kept) = none_made role S c
 
@@ -259,7 +259,7 @@ module _ (role : Role) (S : Settings) where
       let q : is_slice w && is_slice out ≡ true = right (is_slice s && C.is_handle h) (is_slice w && is_slice out) ok in
       let o : is_slice out ≡ true = right (is_slice w) (is_slice out) q in
       on_require _ _ _ _ (λ t1. on_require _ _ _ _ (λ t2. on_require _ _ _ _ (λ t3. on_any _ (session_frames S.channel_max w) _ (λ n.
-      holds (reads_made out o (frames_in n w) (sending_valid n w none out (left (is_slice w) (is_slice out) q) refl o)
+      holds (reads_made out o (frames_in n w) (sending_valid n w None out (left (is_slice w) (is_slice out) q) refl o)
       (is_close (read_frame e.connection.reading_limit S.channel_max s)) (decide role S e.connection (receive_frame s h)) e.phase e.connection
       (read_made role S e.connection s h (left (is_slice s && C.is_handle h) (is_slice w && is_slice out) ok)))))))
   judge_made e (close_order error w out) ok =
@@ -278,7 +278,7 @@ module _ (role : Role) (S : Settings) where
   judge_made e (end_of_input out) ok = on_require _ _ _ _ (λ t1. on_require _ _ _ _ (λ t2. holds (ends_made out ok e.connection e.phase)))
   judge_made e (not_delivered new out) ok =
       on_require _ _ _ _ (λ t1. on_require _ _ _ _ (λ t2.
-      holds (fail_made out ok e.connection (some (undelivered role new)) (undelivered_valid role new) e.connection [] (none_made role S e.connection))))
+      holds (fail_made out ok e.connection (Some (undelivered role new)) (undelivered_valid role new) e.connection [] (none_made role S e.connection))))
 
   landed_made : (e : Engine) {v : Verdict Result} → Holds (Lands e) v → Made role S e.connection (landed v e).connection (bytes_by v)
   landed_made e refused = none_made role S e.connection

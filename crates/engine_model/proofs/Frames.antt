@@ -3,7 +3,7 @@
 use mathlib.Core.Path.{◌≡◌, refl}
 use mathlib.Core.Bool.{Bool, true, cond, ◌&&◌}
 use mathlib.Core.List.{List, [], ◌∷◌}
-use mathlib.Core.Option.{Option, none, some}
+use Rattle.std.specs.Prelude.{Option, None, Some}
 use Prim.Native.Nat.{ℕ}
 use lib.Dec.{T, eqb}
 use Rattle.octets.specs.Verdict.{Verdict, refuse, accept, and_then}
@@ -26,13 +26,13 @@ pub same_unentered : (x : State) → T (unentered x x)
 same_unentered x = everywhere (λ y. unentered y y) tt tt x
 
 abbrev pub leads_to_lem : Option Bool → State → State → Bool
-leads_to_lem none x y = cond (awaits x) (awaits y) true && unentered x y
-leads_to_lem (some error) x y = cond (awaits x) (is End y) (is_one_of (CloseReceived ∷ End ∷ []) y)
+leads_to_lem None x y = cond (awaits x) (awaits y) true && unentered x y
+leads_to_lem (Some error) x y = cond (awaits x) (is End y) (is_one_of (CloseReceived ∷ End ∷ []) y)
 
 -- an answer tells of a Close only where the frame is one
 abbrev pub only_of : Bool → Option Bool → Bool
-only_of close none = true
-only_of close (some error) = close
+only_of close None = true
+only_of close (Some error) = close
 
 pub record ReadsSo (S : Settings) (c : Connection) (close : Bool) (w : M.Outcome) : Type 0 where
   pub silent : w.bytes ≡ []
@@ -40,30 +40,30 @@ pub record ReadsSo (S : Settings) (c : Connection) (close : Bool) (w : M.Outcome
   pub of_close : T (only_of close (close_in w.answer))
 
 -- where the state stays as it is
-same : (x : State) → T (leads_to_lem none x x)
-same x = everywhere (λ y. leads_to_lem none y y) tt tt x
+same : (x : State) → T (leads_to_lem None x x)
+same x = everywhere (λ y. leads_to_lem None y y) tt tt x
 
 module _ (role : Role) (S : Settings) (c : Connection) (close : Bool) where
   abbrev So : Verdict M.Outcome → Type 0
   So v = Holds (ReadsSo S c close) v
 
   on_tie : (f : Frame) (r : ℕ) (o : Option ℕ) → So (tie_to f r o)
-  on_tie f r none = refused
-  on_tie f r (some h) = holds (record { silent = refl; leads = same c.state; of_close = tt })
+  on_tie f r None = refused
+  on_tie f r (Some h) = holds (record { silent = refl; leads = same c.state; of_close = tt })
 
   on_untie : (f : Frame) (o : Option Tie) → So (untie f o)
-  on_untie f none = refused
-  on_untie f (some t) = holds (record { silent = refl; leads = same c.state; of_close = tt })
+  on_untie f None = refused
+  on_untie f (Some t) = holds (record { silent = refl; leads = same c.state; of_close = tt })
 
   on_pass : (f : Frame) (code : ℕ) (o : Option Tie) → So (pass_on f code o)
-  on_pass f code none = refused
-  on_pass f code (some t) = holds (record { silent = refl; leads = same c.state; of_close = tt })
+  on_pass f code None = refused
+  on_pass f code (Some t) = holds (record { silent = refl; leads = same c.state; of_close = tt })
 
   on_new : (ρ : Role) (f : Frame) (h : ℕ) (l : Option (List ℕ)) → So (new_session ρ f h l)
   on_new dialler f h l = refused
-  on_new listener f h none = refused
-  on_new listener f h (some []) = refused
-  on_new listener f h (some (ch ∷ rest)) = holds (record { silent = refl; leads = same c.state; of_close = tt })
+  on_new listener f h None = refused
+  on_new listener f h (Some []) = refused
+  on_new listener f h (Some (ch ∷ rest)) = holds (record { silent = refl; leads = same c.state; of_close = tt })
 
   on_begun : (f : Frame) (h : ℕ) (rs : List ℕ) → So (begun role c f h rs)
   on_begun f h [] = on_new role f h c.hand_out
@@ -73,10 +73,10 @@ module _ (role : Role) (S : Settings) (c : Connection) where
   on_performative : (f : Frame) (h : ℕ) (p : Performative) → So role S c (eqb p.code 24) (performative_read role S c f h p)
   on_performative f h p =
       on_cond _ (eqb p.code 24) _ _
-      (λ t. on_and_then _ _ (on_along (leads_to_lem (some true)) read_close tt c.state) (λ y u. holds (record { silent = refl; leads = u; of_close = t })))
+      (λ t. on_and_then _ _ (on_along (leads_to_lem (Some true)) read_close tt c.state) (λ y u. holds (record { silent = refl; leads = u; of_close = t })))
       (on_cond _ (is Discarding c.state) _ _ (λ t. holds (record { silent = refl; leads = same c.state; of_close = tt }))
       (on_cond _ (eqb p.code 16) _ _
-      (λ t. on_and_then _ _ (on_along (leads_to_lem none) read_open tt c.state) (λ y u. holds (record { silent = refl; leads = u; of_close = tt })))
+      (λ t. on_and_then _ _ (on_along (leads_to_lem None) read_open tt c.state) (λ y u. holds (record { silent = refl; leads = u; of_close = tt })))
       (on_require _ _ _ _ (λ t.
       on_cond _ (eqb p.code 17) _ _ (λ t. on_begun role S c _ f h (remote_channel p))
       (on_cond _ (eqb p.code 23) _ _ (λ t. on_untie role S c _ f (c.ties f.channel)) (on_pass role S c _ f p.code (c.ties f.channel)))))))
@@ -84,8 +84,8 @@ module _ (role : Role) (S : Settings) (c : Connection) where
   on_frame : (h : ℕ) (v : Verdict (Frame × Option Performative)) → So role S c (is_close v) (and_then v (frame_read role S c h))
   unfolding and_then
   on_frame h (refuse k) = refused
-  on_frame h (accept (f, none)) = holds (record { silent = refl; leads = same c.state; of_close = tt })
-  on_frame h (accept (f, some p)) = on_performative f h p
+  on_frame h (accept (f, None)) = holds (record { silent = refl; leads = same c.state; of_close = tt })
+  on_frame h (accept (f, Some p)) = on_performative f h p
 
   pub reads_so : (s : List ℕ) (h : ℕ) → Holds (ReadsSo S c (is_close (read_frame c.reading_limit S.channel_max s))) (decide role S c (receive_frame s h))
   reads_so s h = on_frame h (read_frame c.reading_limit S.channel_max s)

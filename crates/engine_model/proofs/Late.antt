@@ -2,7 +2,7 @@
 -- Assumes nothing.
 use mathlib.Core.Path.{◌≡◌, refl}
 use mathlib.Core.List.{List, [], ◌∷◌}
-use mathlib.Core.Option.{none, some}
+use Rattle.std.specs.Prelude.{None, Some}
 use Prim.Native.Nat.{ℕ}
 use lib.ListN.{length}
 use Rattle.octets.specs.Verdict.{refuse, accept, require, and_then}
@@ -45,7 +45,7 @@ early = outgoing end_on0 out ∷ deallocate 0 ∷ allocate 79 ∷ incoming trans
 freed_early :
     replies_of (seen_in listener settings with_session early)
     ≡ goes_on 0 12 (wrote 12) ∷ goes_on 0 0 (freed 77) ∷ goes_on 0 0 (channel 0)
-    ∷ accept (record { ended = none; consumed = 17; written = length (error_close not_found_condition none); inner = some (refuse 24) }) ∷ []
+    ∷ accept (record { ended = None; consumed = 17; written = length (error_close not_found_condition None); inner = Some (refuse 24) }) ∷ []
 unfolding settings out with_session early error_close amqp peer_open begin transfer end_on0 require and_then room_for big_endian_from big_endian bytes_of starts_with ascii utf8Characters in_range starts any utf8_within utf8 plus followed_by times codes kind_in kind_of bytes_at number_in boolean_end variable_end paired_in opening items compound_end body after_code level run_of value_end fields_in fields_of number_of sized list_at described split error_shape is_error has_type fits fit rows_for performative number_or remote_channel start_of condition_at condition descriptor performative_by fields_by frame body_in content read_frame session_performative session_frame frames_up_to session_frames uint ushort text_header text list_header joined trimmed composite_header composite frame_header frame_bytes limited error_ok description_field error_fields error_field text_of shortest written_as written_fields performative_written session_bytes is_protocol_id protocol_id starts_with_all header_of has_id is_amqp100 protocol received header_bytes idle_field open_fields laid
 freed_early = refl
 

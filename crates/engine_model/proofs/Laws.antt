@@ -3,7 +3,7 @@
 use mathlib.Core.Path.{◌≡◌, refl, ◌∙◌, ap, subst}
 use mathlib.Core.Bool.{Bool, true, false, not}
 use mathlib.Core.List.{List, [], ◌∷◌}
-use mathlib.Core.Option.{Option, none, some}
+use Rattle.std.specs.Prelude.{Option, None, Some}
 use Prim.Native.Nat.{ℕ}
 use lib.Dec.{T}
 use Rattle.octets.specs.Verdict.{Verdict, refuse, accept, require}
@@ -117,8 +117,8 @@ module _ (role : Role) (S : Settings) where
   awaited_rests o c (accept w) = by (close_in w.answer) (M.apply S w.effect c).state
     where
       by : (error : Option Bool) (x : State) → is_running (phase_awaited o error x) ≡ false
-      by none x = refl
-      by (some error) x = refl
+      by None x = refl
+      by (Some error) x = refl
 
   reads_rests :
       (waiting : List (List ℕ)) (out : List ℕ) (close : Bool) (v : Verdict M.Outcome) (p : Phase) (c : Connection) → is_running p ≡ false

@@ -3,7 +3,7 @@
 use mathlib.Core.Path.{◌≡◌, refl, sym, subst}
 use mathlib.Core.Bool.{Bool, true, false, cond, not, ◌&&◌, ◌||◌}
 use mathlib.Core.List.{List, [], ◌∷◌}
-use mathlib.Core.Option.{Option, none, some}
+use Rattle.std.specs.Prelude.{Option, None, Some}
 use Prim.Native.Nat.{ℕ}
 use native.Mathlib.Omega.{arith}
 use lib.Dec.{T, ltb, eqb, eqb→eq}
@@ -86,8 +86,8 @@ cut_goes (stopped o) x t = t
 
 -- a Close tells of it, or it is a transport error
 abbrev tells_of : Option Fault → Bool
-tells_of none = true
-tells_of (some f) = is_told f.outcome
+tells_of None = true
+tells_of (Some f) = is_told f.outcome
 
 either_told : (b : Bool) (f g : Option Fault) → T (tells_of f) → T (tells_of g) → T (tells_of (cond b f g))
 either_told true f g p q = p
@@ -149,14 +149,14 @@ module _ (role : Role) (S : Settings) (c : Connection) where
   on_headed (other h) = on_and_then _ _ (on_along unentered receive_other_header tt c.state) (λ x t. holds t)
 
   on_closes : (e : Option ErrorText) → Holds (λ x. T (unentered c.state x)) (closes e c.state)
-  on_closes none = on_along unentered send_close tt c.state
-  on_closes (some e) = on_along unentered send_close_with_error tt c.state
+  on_closes None = on_along unentered send_close tt c.state
+  on_closes (Some e) = on_along unentered send_close_with_error tt c.state
 
   on_tied : (ρ : Role) (rs : List ℕ) (n : ℕ) (h : Option ℕ) → Holds (λ e. (apply S e c).state ≡ c.state) (tied_by ρ rs n h)
   on_tied dialler rs n h = holds refl
   on_tied listener [] n h = holds refl
-  on_tied listener (r ∷ rs) n none = refused
-  on_tied listener (r ∷ rs) n (some h) = holds refl
+  on_tied listener (r ∷ rs) n None = refused
+  on_tied listener (r ∷ rs) n (Some h) = holds refl
 
   session_same : (s out : List ℕ) → Holds (λ w. after w ≡ c.state) (decide role S c (send_session_frame s out))
   session_same s out =
@@ -168,13 +168,13 @@ module _ (role : Role) (S : Settings) (c : Connection) where
   stays (holds q) = holds (subst (λ x. T (unentered c.state x)) (sym q) (same_unentered c.state))
 
   on_given : (h : ℕ) (l : Option (List ℕ)) → Holds Stays (given h l)
-  on_given h none = refused
-  on_given h (some []) = refused
-  on_given h (some (ch ∷ rest)) = holds (same_unentered c.state)
+  on_given h None = refused
+  on_given h (Some []) = refused
+  on_given h (Some (ch ∷ rest)) = holds (same_unentered c.state)
 
   on_released : (ch : ℕ) (h : Option ℕ) → Holds Stays (released ch h)
-  on_released ch none = refused
-  on_released ch (some h) = holds (same_unentered c.state)
+  on_released ch None = refused
+  on_released ch (Some h) = holds (same_unentered c.state)
 
   on_call : (call : Call) → T (sends call) → Holds Stays (decide role S c call)
   on_call (send_header_to out) t = on_require _ _ _ _ (λ u. on_and_then _ _ (on_along unentered header_sent tt c.state) (λ x v. holds v))
@@ -190,13 +190,13 @@ module _ (role : Role) (S : Settings) (c : Connection) where
       on_require _ _ _ _ (λ u. on_cond _ (is End c.state) _ _ (λ v. holds same) (on_cond _ (is_one_of silent c.state) _ _ (λ v. holds same) (holds same)))
 
   -- a Close without an error leads from CloseReceived to End
-  close_ends : (out : List ℕ) → Holds (λ w. T (cond (is CloseReceived c.state) (is End (after w)) true)) (decide role S c (send_close_to none out))
+  close_ends : (out : List ℕ) → Holds (λ w. T (cond (is CloseReceived c.state) (is End (after w)) true)) (decide role S c (send_close_to None out))
   close_ends out =
       on_require _ _ _ _ (λ t. on_require _ _ _ _ (λ u.
       on_and_then _ _ (on_along (λ x y. cond (is CloseReceived x) (is End y) true) send_close tt c.state) (λ x g. on_any _ _ _ (λ bytes. holds g))))
 
   -- one with an error leads to Discarding or End, and is refused with 20 where none is sent
-  error_leads : (e : ErrorText) (out : List ℕ) → Holds (λ w. T (is_one_of (Discarding ∷ End ∷ []) (after w))) (decide role S c (send_close_to (some e) out))
+  error_leads : (e : ErrorText) (out : List ℕ) → Holds (λ w. T (is_one_of (Discarding ∷ End ∷ []) (after w))) (decide role S c (send_close_to (Some e) out))
   error_leads e out =
       on_require _ _ _ _ (λ t. on_require _ _ _ _ (λ u.
       on_and_then _ _ (on_along (λ x y. is_one_of (Discarding ∷ End ∷ []) y) send_close_with_error tt c.state) (λ x g. on_any _ _ _ (λ bytes. holds g))))
@@ -204,7 +204,7 @@ module _ (role : Role) (S : Settings) (c : Connection) where
   abbrev Illegal : ℕ → Type 0
   Illegal k = T (cond (eqb k 20) (not (closable c.state)) true)
 
-  error_turned : (e : ErrorText) (out : List ℕ) → Refuses Illegal (decide role S c (send_close_to (some e) out))
+  error_turned : (e : ErrorText) (out : List ℕ) → Refuses Illegal (decide role S c (send_close_to (Some e) out))
   unfolding limited
   error_turned e out =
       R.on_require _ _ _ _ tt (λ t. R.on_require _ _ _ _ tt (λ u.
@@ -262,9 +262,9 @@ module _ (role : Role) (S : Settings) where
   first_ends c rest t (refused {k}) g a q = never_accepted k a q
   first_ends c rest t (holds {a = w} same) g a q = g w.answer (apply S w.effect c) (subst (λ x. T (is CloseReceived x)) (sym same) t) a q
 
-  trail_ends : (fs : List (List ℕ)) (out : List ℕ) (last : Answer) (c : Connection) → T (is CloseReceived c.state) → Ends (trail role S last c (sending fs none out))
+  trail_ends : (fs : List (List ℕ)) (out : List ℕ) (last : Answer) (c : Connection) → T (is CloseReceived c.state) → Ends (trail role S last c (sending fs None out))
   trail_ends [] out last c t = last_ends c t (close_ends role S c out)
-  trail_ends (f ∷ fs) out last c t = first_ends c (λ a d. trail role S a d (sending fs none out)) t (session_same role S c f out) (λ a d u. trail_ends fs out a d u)
+  trail_ends (f ∷ fs) out last c t = first_ends c (λ a d. trail role S a d (sending fs None out)) t (session_same role S c f out) (λ a d u. trail_ends fs out a d u)
 
   -- ---- where an event lands
 
@@ -276,8 +276,8 @@ module _ (role : Role) (S : Settings) where
   failed_goes o c bytes t (holds {a = w} g) r = closed_goes o (apply S w.effect c).state t g
 
   fail_goes : (f : Option Fault) (c : Connection) (bytes out : List ℕ) → T (tells_of f) → Goes (fail role S f c bytes out)
-  fail_goes none c bytes out t = anywhere c.state
-  fail_goes (some f) c bytes out t = failed_goes f.outcome c bytes t (error_leads role S c f.error out) (error_turned role S c f.error out)
+  fail_goes None c bytes out t = anywhere c.state
+  fail_goes (Some f) c bytes out t = failed_goes f.outcome c bytes t (error_leads role S c f.error out) (error_turned role S c f.error out)
 
   onward_goes :
       (out : List ℕ) (rest : Connection → List ℕ → Landing) (v : Verdict Answer) (c : Connection) (bytes : List ℕ) → ((a : Answer) → v ≡ accept a → Goes (rest c bytes))
@@ -302,21 +302,21 @@ module _ (role : Role) (S : Settings) where
   answered_goes (accept a) x y t = by (close_in a)
     where
       by : (m : Option Bool) → T (goes_with (phase_read m x y) y)
-      by none = end_settled y t
-      by (some error) = over (closed_by fine x error) y t
+      by None = end_settled y t
+      by (Some error) = over (closed_by fine x error) y t
 
   answering_goes :
       (waiting : List (List ℕ)) (out : List ℕ) (b : Bool) (v : Verdict Answer) (c : Connection) → (T b → T (is CloseReceived c.state))
       → (T (not b) → (a : Answer) → v ≡ accept a → T (goes_with (phase_read (close_in a) c.state c.state) c.state)) → Goes (answering role S waiting out b v c)
   answering_goes waiting out true v c f g =
-      along_goes out (λ d bytes. landing (phase_answered role c.state v d.state) d bytes) (trail role S (wrote 0) c (sending waiting none out))
-      (λ a q. answered_goes v c.state (trail role S (wrote 0) c (sending waiting none out)).connection.state (trail_ends waiting out (wrote 0) c (f tt) a q))
+      along_goes out (λ d bytes. landing (phase_answered role c.state v d.state) d bytes) (trail role S (wrote 0) c (sending waiting None out))
+      (λ a q. answered_goes v c.state (trail role S (wrote 0) c (sending waiting None out)).connection.state (trail_ends waiting out (wrote 0) c (f tt) a q))
   answering_goes waiting out false v c f g = read_to_goes out v c (g tt)
 
   -- read in the state x, which is not CloseReceived, and led to y, where no Close is answered
   read_on : (m : Option Bool) (close : Bool) (x y : State) → T (not (is CloseReceived x)) → T (leads_to_lem m x y) → T (only_of close m) → T (not (close && is CloseReceived y)) → T (goes_with (phase_read m y y) y)
-  read_on none close x y n l o u = settled_goes y (unentered_is x y n (and_right (cond (awaits x) (awaits y) true) (unentered x y) l))
-  read_on (some error) close x y n l o u = over (closed_by fine y error) y (ended (awaits x) (is CloseReceived y) (is End y) l (neither close (is CloseReceived y) o u))
+  read_on None close x y n l o u = settled_goes y (unentered_is x y n (and_right (cond (awaits x) (awaits y) true) (unentered x y) l))
+  read_on (Some error) close x y n l o u = over (closed_by fine y error) y (ended (awaits x) (is CloseReceived y) (is End y) l (neither close (is CloseReceived y) o u))
     where
       neither : (b d : Bool) → T b → T (not (b && d)) → T (not d)
       neither true d p q = q
@@ -342,8 +342,8 @@ module _ (role : Role) (S : Settings) where
 
   -- read while the peer's Close is awaited
   awaited_on : (o : Outcome) (m : Option Bool) (x y : State) → T (is_told o) → T (awaits x) → T (leads_to_lem m x y) → T (goes_with (phase_awaited o m y) y)
-  awaited_on o none x y t u l = awaited_by_lem o y t (implied (awaits x) (awaits y) (and_left (cond (awaits x) (awaits y) true) (unentered x y) l) u)
-  awaited_on o (some error) x y t u l = over (closed_by o y error) y (first (awaits x) (is End y) _ u l)
+  awaited_on o None x y t u l = awaited_by_lem o y t (implied (awaits x) (awaits y) (and_left (cond (awaits x) (awaits y) true) (unentered x y) l) u)
+  awaited_on o (Some error) x y t u l = over (closed_by o y error) y (first (awaits x) (is End y) _ u l)
     where
       first : (a e f : Bool) → T a → T (cond a e f) → T e
       first true e f p q = q
@@ -371,8 +371,8 @@ module _ (role : Role) (S : Settings) where
 
   ends_goes : (out : List ℕ) (c : Connection) (p : Phase) → T (goes_with p c.state) → Goes (input_ends role S out c p)
   ends_goes out c running t =
-      let l : Landing = fail role S (some illegal) c [] out in
-      lands_cond (is_one_of (stops_in fine) c.state) (landing (stopped fine) c []) (cut l) (λ u. u) (cut_goes l.phase l.connection.state (fail_goes (some illegal) c [] out tt))
+      let l : Landing = fail role S (Some illegal) c [] out in
+      lands_cond (is_one_of (stops_in fine) c.state) (landing (stopped fine) c []) (cut l) (λ u. u) (cut_goes l.phase l.connection.state (fail_goes (Some illegal) c [] out tt))
   ends_goes out c (awaiting o) t = anywhere c.state
   ends_goes out c (stopped o) t = t
 
@@ -421,7 +421,7 @@ module _ (role : Role) (S : Settings) where
         on_require _ _ _ _ (λ t1. on_require _ _ _ _ (λ u. on_any _ (session_frame S.channel_max s) _ (λ r. holds (goes_good out (send_session_frame s out ∷ []) tt u))))
     judge_goes (tick out) = on_require _ _ _ _ (λ t. on_require _ _ _ _ (λ u. on_and_then _ _ (called (M.tick out) tt u) (λ w g. holds (settled_goes (apply S w.effect c).state g))))
     judge_goes (end_of_input out) = on_require _ _ _ _ (λ t. on_require _ _ _ _ (λ u. holds (ends_goes out c e.phase f)))
-    judge_goes (not_delivered new out) = on_require _ _ _ _ (λ t. on_require _ _ _ _ (λ u. holds (fail_goes (some (undelivered role new)) c [] out (undelivered_told role new))))
+    judge_goes (not_delivered new out) = on_require _ _ _ _ (λ t. on_require _ _ _ _ (λ u. holds (fail_goes (Some (undelivered role new)) c [] out (undelivered_told role new))))
 
     landed_goes : {v : Verdict Result} → Holds Good v → T (goes_with (landed v e).phase (landed v e).connection.state)
     landed_goes refused = f

@@ -3,7 +3,7 @@
 use mathlib.Core.Path.{◌≡◌, refl}
 use mathlib.Core.Bool.{true, false, cond}
 use mathlib.Core.List.{List, [], ◌∷◌, ◌++◌}
-use mathlib.Core.Option.{Option, none, some}
+use Rattle.std.specs.Prelude.{Option, None, Some}
 use Prim.Native.Nat.{ℕ}
 use lib.ListN.{take, replicate}
 use Rattle.octets.specs.Verdict.{Verdict, refuse, accept, require, and_then}
@@ -49,7 +49,7 @@ states =
     ∷ Discarding ∷ End ∷ []
 
 unfoldable pub settings : Settings
-settings = record { container_id = 0x70 ∷ 0x31 ∷ []; max_frame_size = 4096; channel_max = 7; idle_time_out = none }
+settings = record { container_id = 0x70 ∷ 0x31 ∷ []; max_frame_size = 4096; channel_max = 7; idle_time_out = None }
 
 unfoldable pub out : List ℕ
 out = replicate 32768 0
@@ -65,14 +65,14 @@ table role p event = rows (λ x. judge role settings (in_state p x) event) state
 
 -- the Close that tells of an error
 unfoldable pub error_close : List ℕ → Option (List ℕ) → List ℕ
-error_close c d = frame_bytes 0 (close_body (some (record { condition = c; description = d })))
+error_close c d = frame_bytes 0 (close_body (Some (record { condition = c; description = d })))
 
 -- a frame that was not delivered: amqp:not-found, "Session is not found"
 not_found_close : List ℕ
-not_found_close = error_close not_found_condition (some no_session)
+not_found_close = error_close not_found_condition (Some no_session)
 
 illegal_close : List ℕ
-illegal_close = error_close illegal_state_condition none
+illegal_close = error_close illegal_state_condition None
 
 error_path :
     table listener running (not_delivered false out)
@@ -300,11 +300,11 @@ errors_in_opened :
     ≡ (Opened ∶ stopped transport_error at Opened writes []) ∷ (Opened ∶ stopped transport_error at Opened writes []) ∷ (Opened ∶ stopped transport_error at Opened writes [])
     ∷ (Opened ∶ stopped transport_error at Opened writes []) ∷ (Opened ∶ stopped transport_error at Opened writes []) ∷ (Opened ∶ stopped transport_error at Opened writes [])
     ∷ (Opened ∶ awaiting illegal_state at Discarding writes illegal_close)
-    ∷ (Opened ∶ awaiting not_found at Discarding writes error_close not_found_condition none)
-    ∷ (Opened ∶ awaiting not_implemented at Discarding writes error_close not_implemented_condition (some no_remote_session))
-    ∷ (Opened ∶ awaiting not_implemented at Discarding writes error_close not_implemented_condition none)
-    ∷ (Opened ∶ awaiting not_found at Discarding writes error_close not_found_condition (some no_outgoing_channel))
-    ∷ (Opened ∶ awaiting not_implemented at Discarding writes error_close not_implemented_condition none)
+    ∷ (Opened ∶ awaiting not_found at Discarding writes error_close not_found_condition None)
+    ∷ (Opened ∶ awaiting not_implemented at Discarding writes error_close not_implemented_condition (Some no_remote_session))
+    ∷ (Opened ∶ awaiting not_implemented at Discarding writes error_close not_implemented_condition None)
+    ∷ (Opened ∶ awaiting not_found at Discarding writes error_close not_found_condition (Some no_outgoing_channel))
+    ∷ (Opened ∶ awaiting not_implemented at Discarding writes error_close not_implemented_condition None)
     ∷ (Opened ∶ awaiting not_found at Discarding writes not_found_close)
     ∷ []
 unfolding settings out short long sasl beyond malformed oversized peer_open end_on0 begin answer illegal_close not_found_close error_close require and_then room_for big_endian_from big_endian bytes_of starts_with ascii utf8Characters in_range starts any utf8_within utf8 plus followed_by times codes kind_in kind_of bytes_at number_in boolean_end variable_end paired_in opening items compound_end body after_code level run_of value_end fields_in fields_of number_of sized list_at described split error_shape is_error has_type fits fit rows_for performative number_or remote_channel start_of condition_at condition descriptor performative_by fields_by frame body_in content read_frame session_performative session_frame frames_up_to session_frames uint ushort text_header text list_header joined trimmed composite_header composite frame_header frame_bytes limited error_ok description_field error_fields error_field text_of shortest written_as written_fields performative_written session_bytes
@@ -328,11 +328,11 @@ consumed_in_opened_lem = refl
 
 -- a condition that is not ASCII
 not_ascii : ErrorText
-not_ascii = record { condition = 0x80 ∷ []; description = none }
+not_ascii = record { condition = 0x80 ∷ []; description = None }
 
 abbrev refusal_of : Verdict Result → Option ℕ
-refusal_of (refuse k) = some k
-refusal_of (accept r) = none
+refusal_of (refuse k) = Some k
+refusal_of (accept r) = None
 
 abbrev refusals : Phase → List Event → List (Option ℕ)
 refusals p [] = []
@@ -341,16 +341,16 @@ refusals p (event ∷ events) = refusal_of (judge listener settings (in_state p 
 -- little room; a text; a waiting slice that is no frame; bytes missing; a read frame's length under 8, with such a slice waiting; a Close to be sent as a session's frame; channels
 faulty : List Event
 faulty =
-    close_order (some not_ascii) (0 ∷ []) [] ∷ close_order (some not_ascii) (0 ∷ []) out ∷ close_order none (0 ∷ []) out ∷ incoming (0 ∷ []) 0 [] out
+    close_order (Some not_ascii) (0 ∷ []) [] ∷ close_order (Some not_ascii) (0 ∷ []) out ∷ close_order None (0 ∷ []) out ∷ incoming (0 ∷ []) 0 [] out
     ∷ incoming short 0 (0 ∷ []) out ∷ incoming short 0 [] out ∷ outgoing close out ∷ allocate 0 ∷ deallocate 0 ∷ []
 
 -- while running: 9, 8, then those of the input, the waiting slice's before any error path; then those of allocate and deallocate
-refused_running : refusals running faulty ≡ some 9 ∷ some 8 ∷ some 1 ∷ some 1 ∷ some 1 ∷ none ∷ some 6 ∷ some 21 ∷ some 26 ∷ []
+refused_running : refusals running faulty ≡ Some 9 ∷ Some 8 ∷ Some 1 ∷ Some 1 ∷ Some 1 ∷ None ∷ Some 6 ∷ Some 21 ∷ Some 26 ∷ []
 unfolding settings out faulty not_ascii short close require and_then room_for big_endian_from big_endian bytes_of starts_with ascii utf8Characters in_range starts any utf8_within utf8 plus followed_by times codes kind_in kind_of bytes_at number_in boolean_end variable_end paired_in opening items compound_end body after_code level run_of value_end fields_in fields_of number_of sized list_at described split error_shape is_error has_type fits fit rows_for performative number_or remote_channel start_of condition_at condition descriptor performative_by fields_by frame body_in content read_frame session_performative session_frame frames_up_to session_frames uint ushort text_header text list_header joined trimmed composite_header composite frame_header frame_bytes limited error_ok description_field error_fields error_field text_of shortest written_as written_fields performative_written session_bytes
 refused_running = refl
 
 -- once stopped: 9, 8, then 20
-refused_stopped : refusals (stopped fine) faulty ≡ some 9 ∷ some 8 ∷ some 20 ∷ some 20 ∷ some 20 ∷ some 20 ∷ some 20 ∷ some 20 ∷ some 20 ∷ []
+refused_stopped : refusals (stopped fine) faulty ≡ Some 9 ∷ Some 8 ∷ Some 20 ∷ Some 20 ∷ Some 20 ∷ Some 20 ∷ Some 20 ∷ Some 20 ∷ Some 20 ∷ []
 unfolding settings out faulty not_ascii short close require and_then room_for big_endian_from big_endian bytes_of starts_with ascii utf8Characters in_range starts any utf8_within utf8 plus followed_by times codes kind_in kind_of bytes_at number_in boolean_end variable_end paired_in opening items compound_end body after_code level run_of value_end fields_in fields_of number_of sized list_at described split error_shape is_error has_type fits fit rows_for performative number_or remote_channel start_of condition_at condition descriptor performative_by fields_by frame body_in content read_frame session_performative session_frame frames_up_to session_frames uint ushort text_header text list_header joined trimmed composite_header composite frame_header frame_bytes limited error_ok description_field error_fields error_field text_of shortest written_as written_fields performative_written session_bytes
 refused_stopped = refl
 
@@ -360,7 +360,7 @@ refused_stopped = refl
 life : List Event
 life =
     receive_header amqp ∷ send_header out ∷ incoming peer_open 0 [] out ∷ send_open out ∷ incoming begin 77 [] out ∷ outgoing answer out ∷ incoming transfer 78 [] out
-    ∷ close_order none end_on0 out ∷ tick out ∷ allocate 79 ∷ incoming close 80 [] out ∷ tick out ∷ []
+    ∷ close_order None end_on0 out ∷ tick out ∷ allocate 79 ∷ incoming close 80 [] out ∷ tick out ∷ []
 
 abbrev pub replies_of : List Seen → List (Verdict Reply)
 replies_of [] = []
@@ -377,10 +377,10 @@ outputs_of (s ∷ ss) = written_in s.reply s.output ∷ outputs_of ss
 
 -- goes on, with the bytes consumed and written and what the connection answered
 abbrev pub goes_on : ℕ → ℕ → Answer → Verdict Reply
-goes_on c w a = accept (record { ended = none; consumed = c; written = w; inner = some (accept a) })
+goes_on c w a = accept (record { ended = None; consumed = c; written = w; inner = Some (accept a) })
 
 abbrev ends : Outcome → ℕ → ℕ → Answer → Verdict Reply
-ends o c w a = accept (record { ended = some o; consumed = c; written = w; inner = some (accept a) })
+ends o c w a = accept (record { ended = Some o; consumed = c; written = w; inner = Some (accept a) })
 
 life_replies :
     replies_of (seen_in listener settings fresh life)
@@ -411,14 +411,14 @@ lead_to HeaderReceived = receive_header amqp ∷ []
 lead_to HeaderSent = send_header out ∷ []
 lead_to HeaderExchange = send_header out ∷ receive_header amqp ∷ []
 lead_to OpenPipe = send_header out ∷ send_open out ∷ []
-lead_to OpenClosePipe = send_header out ∷ send_open out ∷ close_order none [] out ∷ []
+lead_to OpenClosePipe = send_header out ∷ send_open out ∷ close_order None [] out ∷ []
 lead_to OpenReceived = send_header out ∷ receive_header amqp ∷ incoming peer_open 0 [] out ∷ []
 lead_to OpenSent = send_header out ∷ receive_header amqp ∷ send_open out ∷ []
-lead_to ClosePipe = send_header out ∷ receive_header amqp ∷ send_open out ∷ close_order none [] out ∷ []
+lead_to ClosePipe = send_header out ∷ receive_header amqp ∷ send_open out ∷ close_order None [] out ∷ []
 lead_to Opened = to_opened
 lead_to CloseReceived = []
-lead_to CloseSent = to_opened ++ (close_order none [] out ∷ [])
-lead_to Discarding = to_opened ++ (close_order (some (record { condition = []; description = none })) [] out ∷ [])
+lead_to CloseSent = to_opened ++ (close_order None [] out ∷ [])
+lead_to Discarding = to_opened ++ (close_order (Some (record { condition = []; description = None })) [] out ∷ [])
 lead_to End = receive_header tls ∷ []
 
 -- an event with an error that a Close tells of: an End that is sent where none may be, or what was not delivered

@@ -1,8 +1,7 @@
 -- The engine: a connection in a phase, its events, and for each event what it answers, does and writes (document 01, "The engine's event").
 -- What an event does to the connection is made of the connection's own calls. Each of them is lent the whole output; what they write stands one after the other.
 -- Assumes nothing: these are definitions.
-use Rattle.std.specs.Prelude.{Bool, true, false, cond, not, ◌&&◌, ◌||◌, List, [], ◌∷◌, ◌++◌, ℕ, zero, suc, length, drop, eqb}
-use Rattle.std.proofs.Math.Option.{Option, none, some}
+use Rattle.std.specs.Prelude.{Bool, true, false, cond, not, ◌&&◌, ◌||◌, List, [], ◌∷◌, ◌++◌, ℕ, zero, suc, length, drop, eqb, Option, None, Some}
 use Rattle.octets.specs.Verdict.{Verdict, refuse, accept, require, and_then}
 use Rattle.octets.specs.Output.{room_for, laid}
 use Rattle.performatives.specs.Performative.{Performative}
@@ -128,34 +127,34 @@ abbrev pub fault : Outcome → List ℕ → Option (List ℕ) → Fault
 fault o condition description = record { outcome = o; error = record { condition = condition; description = description } }
 
 abbrev pub illegal : Fault
-illegal = fault illegal_state illegal_state_condition none
+illegal = fault illegal_state illegal_state_condition None
 
 -- what the Rust says of a Begin that begins a session, where it takes none
 abbrev pub unsupported : Role → Option (List ℕ)
-unsupported dialler = some no_remote_session
-unsupported listener = none
+unsupported dialler = Some no_remote_session
+unsupported listener = None
 
 -- what the refusal of a read leads to; of a transport error the peer is told nothing
 abbrev pub read_fault : Role → ℕ → Option Fault
 read_fault role k =
-    cond (eqb k 20) (some illegal)
-    (cond (eqb k 24) (some (fault not_found not_found_condition none))
-    (cond (eqb k 25) (some (fault not_implemented not_implemented_condition (unsupported role)))
-    none))
+    cond (eqb k 20) (Some illegal)
+    (cond (eqb k 24) (Some (fault not_found not_found_condition None))
+    (cond (eqb k 25) (Some (fault not_implemented not_implemented_condition (unsupported role)))
+    None))
 
 -- what the refusal of something that was to go out leads to
 abbrev pub send_fault : ℕ → Option Fault
-send_fault k = cond (eqb k 20) (some illegal) (cond (eqb k 24) (some (fault not_found not_found_condition (some no_outgoing_channel))) none)
+send_fault k = cond (eqb k 20) (Some illegal) (cond (eqb k 24) (Some (fault not_found not_found_condition (Some no_outgoing_channel))) None)
 
 -- what could not be delivered
 abbrev pub undelivered : Role → Bool → Fault
-undelivered listener true = fault not_implemented not_implemented_condition none
-undelivered listener false = fault not_found not_found_condition (some no_session)
-undelivered dialler new = fault not_found not_found_condition (some no_session)
+undelivered listener true = fault not_implemented not_implemented_condition None
+undelivered listener false = fault not_found not_found_condition (Some no_session)
+undelivered dialler new = fault not_found not_found_condition (Some no_session)
 
 abbrev pub outcome_of : Option Fault → Outcome
-outcome_of none = transport_error
-outcome_of (some f) = f.outcome
+outcome_of None = transport_error
+outcome_of (Some f) = f.outcome
 
 -- where no Close can be sent: it is on its way already, or the connection is over, or there is nothing to close
 abbrev pub unclosed : Outcome → State → Phase
@@ -170,8 +169,8 @@ failed S o c bytes (accept w) = landing (closed_with o (apply S w.effect c).stat
 
 -- with what was written before
 abbrev pub fail : Role → Settings → Option Fault → Connection → List ℕ → List ℕ → Landing
-fail role S none c bytes out = landing (stopped transport_error) c bytes
-fail role S (some f) c bytes out = failed S f.outcome c bytes (decide role S c (send_close_to (some f.error) out))
+fail role S None c bytes out = landing (stopped transport_error) c bytes
+fail role S (Some f) c bytes out = failed S f.outcome c bytes (decide role S c (send_close_to (Some f.error) out))
 
 -- what goes out is refused, or the event goes on from there
 abbrev pub onward : Role → Settings → List ℕ → (Connection → List ℕ → Landing) → Trail → Landing
@@ -190,21 +189,21 @@ closed_by o x false = cond (is CloseReceived x) remote_closed o
 
 -- whether an answer tells of a Close, and then whether an error came with it
 abbrev pub close_in : Answer → Option Bool
-close_in (wrote n) = none
-close_in stop = none
-close_in (header n) = none
-close_in (other_protocol n) = none
-close_in (nothing_to_do n) = none
-close_in (opened n idle) = none
-close_in (closed n error) = some error
-close_in (forward n code h from len) = none
-close_in (began n ch h from len) = none
-close_in (channel ch) = none
-close_in (freed h) = none
+close_in (wrote n) = None
+close_in stop = None
+close_in (header n) = None
+close_in (other_protocol n) = None
+close_in (nothing_to_do n) = None
+close_in (opened n idle) = None
+close_in (closed n error) = Some error
+close_in (forward n code h from len) = None
+close_in (began n ch h from len) = None
+close_in (channel ch) = None
+close_in (freed h) = None
 
 abbrev pub phase_read : Option Bool → State → State → Phase
-phase_read none x y = settled y
-phase_read (some error) x y = stopped (closed_by fine x error)
+phase_read None x y = settled y
+phase_read (Some error) x y = stopped (closed_by fine x error)
 
 -- a read that answered so and led to the state x
 abbrev pub read_to : Role → Settings → List ℕ → State → Verdict Answer → Connection → List ℕ → Landing
@@ -213,8 +212,8 @@ read_to role S out x (accept a) c bytes = landing (phase_read (close_in a) x c.s
 
 abbrev pub is_close : Verdict (Frame × Option Performative) → Bool
 is_close (refuse k) = false
-is_close (accept (f, none)) = false
-is_close (accept (f, some p)) = eqb p.code 24
+is_close (accept (f, None)) = false
+is_close (accept (f, Some p)) = eqb p.code 24
 
 -- a frame was read and answered so, and led to the state x; a Close was sent since, so that an error has nothing more to close
 abbrev pub phase_answered : Role → State → Verdict Answer → State → Phase
@@ -224,15 +223,15 @@ phase_answered role x (accept a) y = phase_read (close_in a) x y
 -- a Close that leaves CloseReceived behind is answered: the waiting frames, and then a Close
 abbrev pub answering : Role → Settings → List (List ℕ) → List ℕ → Bool → Verdict Answer → Connection → Landing
 answering role S waiting out true v c =
-    onward role S out (λ c' bytes. landing (phase_answered role c.state v c'.state) c' bytes) (trail role S (wrote 0) c (sending waiting none out))
+    onward role S out (λ c' bytes. landing (phase_answered role c.state v c'.state) c' bytes) (trail role S (wrote 0) c (sending waiting None out))
 answering role S waiting out false v c = read_to role S out c.state v c []
 
 abbrev pub received : Role → Settings → List (List ℕ) → List ℕ → Bool → Connection → Verdict M.Outcome → Landing
 received role S waiting out close c v = answering role S waiting out (close && is CloseReceived (after S v c).state) (answered v) (after S v c)
 
 abbrev pub phase_awaited : Outcome → Option Bool → State → Phase
-phase_awaited o none x = awaiting o
-phase_awaited o (some error) x = stopped (closed_by o x error)
+phase_awaited o None x = awaiting o
+phase_awaited o (Some error) x = stopped (closed_by o x error)
 
 abbrev pub awaited : Role → Settings → Outcome → Connection → Verdict M.Outcome → Landing
 awaited role S o c (refuse k) = landing (stopped (outcome_of (read_fault role k))) c []
@@ -269,7 +268,7 @@ cut l = landing (cut_short l.phase) l.connection l.bytes
 abbrev pub input_ends : Role → Settings → List ℕ → Connection → Phase → Landing
 input_ends role S out c running =
     cond (is_one_of (ClosePipe ∷ Discarding ∷ End ∷ []) c.state) (landing (stopped fine) c [])
-    (cut (fail role S (some illegal) c [] out))
+    (cut (fail role S (Some illegal) c [] out))
 input_ends role S out c (awaiting o) = landing (stopped transport_error) c []
 input_ends role S out c (stopped o) = landing (stopped o) c []
 
@@ -277,13 +276,13 @@ input_ends role S out c (stopped o) = landing (stopped o) c []
 
 -- what one call comes to: a call that opens the connection leaves the phase as it is, with the bytes that it consumed
 abbrev pub opening : Settings → Connection → ℕ → M.Outcome → Verdict Result
-opening S c consumed w = results (landing running (apply S w.effect c) w.bytes) consumed (some (accept w.answer))
+opening S c consumed w = results (landing running (apply S w.effect c) w.bytes) consumed (Some (accept w.answer))
 
 abbrev pub well : Settings → Connection → M.Outcome → Verdict Result
-well S c w = results (landing (settled (apply S w.effect c).state) (apply S w.effect c) w.bytes) 0 (some (accept w.answer))
+well S c w = results (landing (settled (apply S w.effect c).state) (apply S w.effect c) w.bytes) 0 (Some (accept w.answer))
 
 abbrev pub goes : Role → Settings → List ℕ → Trail → Verdict Result
-goes role S out t = results (onward role S out (λ c bytes. landing (settled c.state) c bytes) t) 0 (some t.last)
+goes role S out t = results (onward role S out (λ c bytes. landing (settled c.state) c bytes) t) 0 (Some t.last)
 
 -- what an event comes to
 abbrev pub judge : Role → Settings → Engine → Event → Verdict Result
@@ -306,7 +305,7 @@ judge role S e (incoming s h w out) =
     results
     (reads role S (frames_in n w) out (is_close (read_frame e.connection.reading_limit S.channel_max s)) (decide role S e.connection (receive_frame s h)) e)
     (consumed_of s (answered (decide role S e.connection (receive_frame s h))))
-    (some (answered (decide role S e.connection (receive_frame s h))))))))
+    (Some (answered (decide role S e.connection (receive_frame s h))))))))
 judge role S e (close_order error w out) =
     require 9 (room_for (length w) out) (λ _.
     require 8 (close_ok error) (λ _.
@@ -331,11 +330,11 @@ judge role S e (tick out) =
 judge role S e (end_of_input out) =
     require 9 (room_for 0 out) (λ _.
     require 20 (not (is_stopped e.phase)) (λ _.
-    results (input_ends role S out e.connection e.phase) 0 none))
+    results (input_ends role S out e.connection e.phase) 0 None))
 judge role S e (not_delivered new out) =
     require 9 (room_for 0 out) (λ _.
     require 20 (is_running e.phase) (λ _.
-    results (fail role S (some (undelivered role new)) e.connection [] out) 0 none))
+    results (fail role S (Some (undelivered role new)) e.connection [] out) 0 None))
 
 -- ---- an event, and lists of events
 
@@ -367,9 +366,9 @@ has_room (end_of_input out) = room_for 0 out
 has_room (not_delivered new out) = room_for 0 out
 
 abbrev pub ended_in : Phase → Option Outcome
-ended_in running = none
-ended_in (awaiting o) = none
-ended_in (stopped o) = some o
+ended_in running = None
+ended_in (awaiting o) = None
+ended_in (stopped o) = Some o
 
 abbrev pub replied : Verdict Result → Verdict Reply
 replied (refuse k) = refuse k

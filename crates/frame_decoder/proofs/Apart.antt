@@ -3,35 +3,32 @@
 use mathlib.Core.Path.{◌≡◌, refl, sym, ap, ◌∙◌}
 use mathlib.Core.Bool.{cond}
 use mathlib.Core.List.{List, [], ◌∷◌}
-use mathlib.Core.Option.{Option, none, some}
+use Rattle.std.specs.Prelude.{Option, None, Some, Result, Ok, Err}
 use Prim.Native.Nat.{ℕ}
 use lib.ListN.{get_or}
 use lib.Dec.{eqb}
-use Rattle.octets.specs.Verdict.{Verdict, refuse, accept}
+use Rattle.octets.specs.Refusal.{judged}
+use Rattle.octets.specs.declared.Refusal.{Refusal}
+use Rattle.octets.proofs.Refusals.{same_refusal, same_judged}
 use Rattle.performatives.specs.declared.Performative.{Performative}
 use Rattle.performatives.specs.declared.Performative.TheVariants.{Open, Begin, Attach, Flow, Transfer, Disposition, Detach, End, Close}
-use Rattle.performatives.specs.declared.RemoteChannel.{RemoteChannel}
-use Rattle.performatives.specs.declared.RemoteChannel.TheVariants.{Absent, Is}
 use Rattle.performatives.specs.declared.Condition.{Condition}
-use Rattle.performatives.specs.declared.Condition.TheVariants.{Absent as NoCondition, At}
 use Rattle.performatives.specs.Performative.{Said}
 use Rattle.frame_decoder.specs.declared.Frame.{Frame}
-use Rattle.frame_decoder.specs.declared.Frame.TheVariants.{Refused, Empty, Body}
-use Rattle.frame_decoder.specs.declared.Frames.{Frames}
-use Rattle.frame_decoder.specs.declared.Frames.TheVariants.{Are, Refused as NotAll}
+use Rattle.frame_decoder.specs.declared.Frame.TheVariants.{Empty, Body}
 use Rattle.frame_decoder.specs.Frame.{FrameSaid}
-use Rattle.frame_decoder.specs.Answers.{ending_at, frame_says, frames_say}
+use Rattle.frame_decoder.specs.Answers.{ending_at, shown, frame_says}
 
 abbrev opening : List ℕ → Performative
 opening l = Open (get_or l 0 0) (get_or l 1 0) (get_or l 2 0)
 
-abbrev remote : List ℕ → RemoteChannel
-remote [] = Absent
-remote (n ∷ l) = Is n
+abbrev remote : List ℕ → Option ℕ
+remote [] = None
+remote (n ∷ l) = Some n
 
-abbrev condition : List ℕ → Condition
-condition [] = NoCondition
-condition (a ∷ l) = At a (get_or l 0 0)
+abbrev condition : List ℕ → Option Condition
+condition [] = None
+condition (a ∷ l) = Some (record { from = a; len = get_or l 0 0 })
 
 abbrev heard : Said → Performative
 heard d =
@@ -47,42 +44,38 @@ heard d =
 
 heard_is : (end : ℕ) (p : Performative) → heard (ending_at end p) ≡ p
 heard_is end (Open a b c) = refl
-heard_is end (Begin Absent) = refl
-heard_is end (Begin (Is n)) = refl
+heard_is end (Begin None) = refl
+heard_is end (Begin (Some n)) = refl
 heard_is end Attach = refl
 heard_is end Flow = refl
 heard_is end Transfer = refl
 heard_is end Disposition = refl
-heard_is end (Detach NoCondition) = refl
-heard_is end (Detach (At a n)) = refl
-heard_is end (End NoCondition) = refl
-heard_is end (End (At a n)) = refl
-heard_is end (Close NoCondition) = refl
-heard_is end (Close (At a n)) = refl
+heard_is end (Detach None) = refl
+heard_is end (Detach (Some c)) = refl
+heard_is end (End None) = refl
+heard_is end (End (Some c)) = refl
+heard_is end (Close None) = refl
+heard_is end (Close (Some c)) = refl
 
 abbrev holds : FrameSaid → Option Said → Frame
-holds x none = Empty x.channel x.size x.from
-holds x (some d) = Body x.channel x.size x.from (heard d) d.end
+holds x None = Empty x.channel x.size x.from
+holds x (Some d) = Body x.channel x.size x.from (heard d) d.end
 
-abbrev answer : Verdict FrameSaid → Frame
-answer (refuse k) = Refused k
-answer (accept x) = holds x x.content
+abbrev held : FrameSaid → Frame
+held x = holds x x.content
 
-answer_is : (f : Frame) → answer (frame_says f) ≡ f
-answer_is (Refused k) = refl
-answer_is (Empty channel size from) = refl
-answer_is (Body channel size from p end) = ap (λ (q : Performative). Body channel size from q end) (heard_is end p)
+held_is : (f : Frame) → held (shown f) ≡ f
+held_is (Empty channel size from) = refl
+held_is (Body channel size from p end) = ap (λ (q : Performative). Body channel size from q end) (heard_is end p)
 
-pub same_frame : (f g : Frame) → frame_says f ≡ frame_says g → f ≡ g
-same_frame f g e = sym (answer_is f) ∙ ap answer e ∙ answer_is g
+same_shown : (f g : Frame) → shown f ≡ shown g → f ≡ g
+same_shown f g e = sym (held_is f) ∙ ap held e ∙ held_is g
 
-abbrev count : Verdict ℕ → Frames
-count (refuse k) = NotAll k
-count (accept n) = Are n
+pub same_frame : (f g : Result Frame Refusal) → frame_says f ≡ frame_says g → f ≡ g
+same_frame (Ok f) (Ok g) e = ap Ok (same_shown f g (cc))
+same_frame (Err k) (Err l) e = ap Err (same_refusal k l (cc))
+same_frame (Ok f) (Err l) e = absurd (cc)
+same_frame (Err k) (Ok g) e = absurd (cc)
 
-count_is : (f : Frames) → count (frames_say f) ≡ f
-count_is (Are n) = refl
-count_is (NotAll k) = refl
-
-pub same_frames : (f g : Frames) → frames_say f ≡ frames_say g → f ≡ g
-same_frames f g e = sym (count_is f) ∙ ap count e ∙ count_is g
+pub same_frames : (f g : Result ℕ Refusal) → judged f ≡ judged g → f ≡ g
+same_frames f g e = same_judged f g e

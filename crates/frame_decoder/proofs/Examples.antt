@@ -3,7 +3,7 @@
 use mathlib.Core.Path.{◌≡◌, refl}
 use Prim.Native.Nat.{ℕ}
 use mathlib.Core.List.{List, [], ◌∷◌, ◌++◌}
-use mathlib.Core.Option.{none}
+use Rattle.std.specs.Prelude.{None}
 use Rattle.octets.specs.Verdict.{refuse, accept, require, and_then}
 use Rattle.octets.specs.Octets.{big_endian, big_endian_from, starts_with}
 use Rattle.values.specs.Value.{plus, times, followed_by, codes, kind_in, kind_of, bytes, number_in, boolean_end, variable_end, paired_in, opening, items, compound_end, body, after_code, level, run, value_end}
@@ -13,7 +13,7 @@ use Rattle.frame_decoder.specs.Frame.{frame, body_in, content, read_frame, sessi
 
 -- ---- read, with a limit of 512
 
-pub empty_frame : read_frame 512 0 (0x00 ∷ 0x00 ∷ 0x00 ∷ 0x08 ∷ 0x02 ∷ 0x00 ∷ 0x00 ∷ 0x00 ∷ []) ≡ accept (record { size = 8; channel = 0; from = 8 }, none)
+pub empty_frame : read_frame 512 0 (0x00 ∷ 0x00 ∷ 0x00 ∷ 0x08 ∷ 0x02 ∷ 0x00 ∷ 0x00 ∷ 0x00 ∷ []) ≡ accept (record { size = 8; channel = 0; from = 8 }, None)
 unfolding read_frame frame body_in content require and_then big_endian big_endian_from
 empty_frame = refl
 

@@ -3,7 +3,7 @@
 use mathlib.Core.Path.{◌≡◌, refl, sym, ap, ◌∙◌}
 use mathlib.Core.Bool.{Bool, true, false, ◌&&◌, ◌||◌, cond}
 use mathlib.Core.List.{List, [], ◌∷◌}
-use mathlib.Core.Option.{Option, none, some}
+use Rattle.std.specs.Prelude.{Option, None, Some, Result, Ok, Err}
 use Prim.Native.Nat.{ℕ, suc, ◌+◌, ◌*◌, ◌-◌, ◌^◌, ◌<◌, ◌≤◌}
 use native.Mathlib.Omega.{arith}
 use lib.ListN.{length, take, drop, get_or, length-take, length-drop}
@@ -16,24 +16,20 @@ use mir.Val.{Fits}
 use denote.Enum.Declared.{tag_of}
 use borrow.Author.Tests.{le-leb, lt-leb, ne_eqb, eqb-true}
 use Rattle.octets.specs.Verdict.{Verdict, refuse, accept, require, and_then}
+use Rattle.octets.specs.Refusal.{number_of}
+use Rattle.octets.specs.declared.Refusal.{Refusal}
 use Rattle.octets.specs.Octets.{big_endian}
 use Rattle.octets.proofs.Laws.{then_accept, then_refuse}
 use Rattle.values.proofs.Apart.{then_was}
-use Rattle.performatives.specs.declared.Body as B
-use Rattle.performatives.specs.declared.Body.TheVariants.{Is as Read, Malformed}
 use Rattle.performatives.specs.declared.Performative as P
 use Rattle.performatives.specs.declared.Performative.TheVariants.{Open, Begin, Attach, Flow, Transfer, Disposition, Detach, End, Close}
-use Rattle.performatives.specs.declared.RemoteChannel.{RemoteChannel}
-use Rattle.performatives.specs.declared.RemoteChannel.TheVariants.{Absent, Is as Channel}
 use Rattle.performatives.specs.Performative.{Performative, performative, Said, said, values_in, values_of, performative_said}
-use Rattle.performatives.specs.Answers.{performative_says, body_says}
+use Rattle.performatives.specs.Answers.{performative_says}
 use Rattle.performatives.specs.contracts.Performative.{the_type}
 use Rattle.frame_decoder.specs.declared.Header.{Header}
-use Rattle.frame_decoder.specs.declared.Header.TheVariants.{Is, Refused as NoFrame}
 use Rattle.frame_decoder.specs.declared.Frame as F
-use Rattle.frame_decoder.specs.declared.Frame.TheVariants.{Refused, Empty, Body}
 use Rattle.frame_decoder.specs.Frame.{Frame, size_of, channel_of, frame, body_in, body_by, any_size, any_channel, body_of, FrameSaid, holding, content, said_of, read_frame, is_session, within, begins_for, session_performative, session_frame, session_said, session_frames}
-use Rattle.frame_decoder.specs.Answers.{ending_at, header_says, refusal_in, may_send, begins_within, frame_says, frame_answer, session_answer, session_body}
+use Rattle.frame_decoder.specs.Answers.{ending_at, header_says, may_send, begins_within, shown, frame_says, frame_answer, session_answer, session_body}
 use Rattle.frame_decoder.proofs.Laws.{frame_was, body_length, session_frame_lem, sessions_none, sessions_refused, sessions_first}
 
 apart : {A : Type 0} → ◌≡◌ {A = ℕ} 0 1 → A
@@ -102,58 +98,58 @@ channel_fits s y h =
 
 -- ---- an opened header: h is what `read_header` answered
 
-module _ (limit highest : ℕ) (s : List ℕ) (h : Header) (e : header_says h ≡ frame limit highest s) where
-  pub opened : (size channel : ℕ) → h ≡ Is size channel → frame limit highest s ≡ accept (record { size = size; channel = channel; from = 8 })
-  opened size channel q = sym e ∙ rw q
+module _ (limit highest : ℕ) (s : List ℕ) (h : Result Header Refusal) (e : header_says h ≡ frame limit highest s) where
+  pub opened : (x : Header) → h ≡ Ok x → frame limit highest s ≡ accept (record { size = x.size; channel = x.channel; from = 8 })
+  opened x q = sym e ∙ rw q
 
-  pub unopened : (k : ℕ) → h ≡ NoFrame k → frame limit highest s ≡ refuse k
+  pub unopened : (k : Refusal) → h ≡ Err k → frame limit highest s ≡ refuse (number_of k)
   unopened k q = sym e ∙ rw q
 
-  module _ (size channel : ℕ) (q : h ≡ Is size channel) where
-    pub part_from : 8 ≤ size
-    part_from = (frame_was limit highest s _ (opened size channel q)).header
+  module _ (x : Header) (q : h ≡ Ok x) where
+    pub part_from : 8 ≤ x.size
+    part_from = (frame_was limit highest s _ (opened x q)).header
 
-    pub part_end : size ≤ length s
-    part_end = (frame_was limit highest s _ (opened size channel q)).here
+    pub part_end : x.size ≤ length s
+    part_end = (frame_was limit highest s _ (opened x q)).here
 
 -- ---- body
 
-module _ (s : List ℕ) (h : Header) (e : header_says h ≡ frame any_size any_channel s) where
-  pub body_none : (k : ℕ) → h ≡ NoFrame k → [] ≡ body_of s
+module _ (s : List ℕ) (h : Result Header Refusal) (e : header_says h ≡ frame any_size any_channel s) where
+  pub body_none : (k : Refusal) → h ≡ Err k → [] ≡ body_of s
   unfolding body_of body_by
   body_none k q = rw (unopened any_size any_channel s h e k q)
 
-  pub body_some : (size channel : ℕ) → h ≡ Is size channel → take (size - 8) (drop 8 s) ≡ body_of s
+  pub body_some : (x : Header) → h ≡ Ok x → take (x.size - 8) (drop 8 s) ≡ body_of s
   unfolding body_of body_by body_in
-  body_some size channel q = rw (opened any_size any_channel s h e size channel q)
+  body_some x q = rw (opened any_size any_channel s h e x q)
 
--- ---- a body that was read: b is what `performatives::read` answered
+-- ---- a body that was read, by what `performatives::read` ensures of its answer
 
 said_refused : (v : Verdict Performative) (k : ℕ) → and_then v (λ p. accept (said p)) ≡ refuse k → v ≡ refuse k
 unfolding and_then
 said_refused (refuse j) k e = cc
 said_refused (accept p) k e = apart (cc)
 
-module _ (s : List ℕ) (b : B.Body) (e : body_says b ≡ performative_said s) where
-  malformed : b ≡ Malformed → performative s ≡ refuse 6
+module _ (s : List ℕ) where
+  malformed : refuse 6 ≡ performative_said s → performative s ≡ refuse 6
   unfolding performative_said
-  malformed q = said_refused (performative s) 6 (sym e ∙ rw q)
+  malformed e = said_refused (performative s) 6 (sym e)
 
-  module _ (p : P.Performative) (end : ℕ) (q : b ≡ Read p end) where
+  module _ (p : P.Performative) (end : ℕ) (e : accept (ending_at end p) ≡ performative_said s) where
     is_said : (x : Performative) × (performative s ≡ accept x) × (said x ≡ ending_at end p)
     unfolding performative_said
     is_said =
-        let a = then_was (performative s) (λ x. accept (said x)) (ending_at end p) (sym e ∙ rw q) in
+        let a = then_was (performative s) (λ x. accept (said x)) (ending_at end p) (sym e) in
         (a.0, a.1, cc)
 
 -- ---- read
 
-content_some : (s : List ℕ) → (length s ≡ 0 → ⊥) → content s ≡ and_then (performative s) (λ p. accept (some p))
+content_some : (s : List ℕ) → (length s ≡ 0 → ⊥) → content s ≡ and_then (performative s) (λ p. accept (Some p))
 unfolding content
 content_some [] n = absurd (n refl)
 content_some (b ∷ s) n = refl
 
-content_none : (s : List ℕ) → length s ≡ 0 → content s ≡ accept none
+content_none : (s : List ℕ) → length s ≡ 0 → content s ≡ accept None
 unfolding content
 content_none [] e = refl
 content_none (b ∷ s) e = absurd (omega arith)
@@ -168,32 +164,32 @@ module _ (limit highest : ℕ) (s : List ℕ) where
   unfolding frame_answer read_frame and_then
   refused f k e q = rw (e, q)
 
-  module _ (h : Header) (e : header_says h ≡ frame limit highest s) where
-    pub read_refused : (k j : ℕ) → h ≡ NoFrame k → j ≡ refusal_in (header_says h) → refuse j ≡ frame_answer limit highest s
+  module _ (h : Result Header Refusal) (e : header_says h ≡ frame limit highest s) where
+    pub read_refused : (k : Refusal) → h ≡ Err k → refuse (number_of k) ≡ frame_answer limit highest s
     unfolding frame_answer read_frame and_then
-    read_refused k j q r = rw (unopened limit highest s h e k q, r, q)
+    read_refused k q = rw (unopened limit highest s h e k q)
 
-    module _ (size channel : ℕ) (q : h ≡ Is size channel) where
-      is_frame_lem : frame limit highest s ≡ accept (record { size = size; channel = channel; from = 8 })
-      is_frame_lem = opened limit highest s h e size channel q
+    module _ (x : Header) (q : h ≡ Ok x) where
+      is_frame_lem : frame limit highest s ≡ accept (record { size = x.size; channel = x.channel; from = 8 })
+      is_frame_lem = opened limit highest s h e x q
 
-      pub read_empty : size ≡ 8 → accept (record { size = size; channel = channel; from = 8; content = none }) ≡ frame_answer limit highest s
-      read_empty z = sym (answered _ none is_frame_lem (content_none _ (omega (arith, body_length limit highest s _ is_frame_lem))))
+      pub read_empty : x.size ≡ 8 → accept (record { size = x.size; channel = x.channel; from = 8; content = None }) ≡ frame_answer limit highest s
+      read_empty z = sym (answered _ None is_frame_lem (content_none _ (omega (arith, body_length limit highest s _ is_frame_lem))))
 
-      module _ (n : size ≡ 8 → ⊥) (b : B.Body) (r : body_says b ≡ performative_said (take (size - 8) (drop 8 s))) where
-        some_body : length (take (size - 8) (drop 8 s)) ≡ 0 → ⊥
+      module _ (n : x.size ≡ 8 → ⊥) where
+        some_body : length (take (x.size - 8) (drop 8 s)) ≡ 0 → ⊥
         unfolding body_in
-        some_body z = n (omega (arith, body_length limit highest s _ is_frame_lem, part_from limit highest s h e size channel q))
+        some_body z = n (omega (arith, body_length limit highest s _ is_frame_lem, part_from limit highest s h e x q))
 
-        pub read_malformed : b ≡ Malformed → refuse 6 ≡ frame_answer limit highest s
+        pub read_malformed : refuse 6 ≡ performative_said (take (x.size - 8) (drop 8 s)) → refuse 6 ≡ frame_answer limit highest s
         unfolding body_in and_then
-        read_malformed m = sym (refused _ 6 is_frame_lem (content_some _ some_body ∙ rw (malformed _ b r m)))
+        read_malformed m = sym (refused _ 6 is_frame_lem (content_some _ some_body ∙ rw (malformed _ m)))
 
-        pub read_body : (p : P.Performative) (end : ℕ) → b ≡ Read p end → accept (record { size = size; channel = channel; from = 8; content = some (ending_at end p) }) ≡ frame_answer limit highest s
+        pub read_body : (p : P.Performative) (end : ℕ) → accept (ending_at end p) ≡ performative_said (take (x.size - 8) (drop 8 s)) → accept (record { size = x.size; channel = x.channel; from = 8; content = Some (ending_at end p) }) ≡ frame_answer limit highest s
         unfolding body_in and_then
         read_body p end m =
-            let x = is_said _ b r p end m in
-            sym (answered _ (some x.0) is_frame_lem (content_some _ some_body ∙ rw x.1) ∙ rw x.2)
+            let y = is_said _ p end m in
+            sym (answered _ (Some y.0) is_frame_lem (content_some _ some_body ∙ rw y.1) ∙ rw y.2)
 
 -- ---- begins_within
 
@@ -209,12 +205,12 @@ begins_not highest (Detach e) h = refl
 begins_not highest (End e) h = refl
 begins_not highest (Close e) h = refl
 
-module _ (highest : ℕ) (p : P.Performative) (r : RemoteChannel) (e : p ≡ Begin r) where
-  pub begins_none : r ≡ Absent → true ≡ begins_within highest p
+module _ (highest : ℕ) (p : P.Performative) (r : Option ℕ) (e : p ≡ Begin r) where
+  pub begins_none : r ≡ None → true ≡ begins_within highest p
   unfolding begins_within
   begins_none q = rw (e, q)
 
-  pub begins_at : (n : ℕ) → r ≡ Channel n → leb n highest ≡ begins_within highest p
+  pub begins_at : (n : ℕ) → r ≡ Some n → leb n highest ≡ begins_within highest p
   unfolding begins_within
   begins_at n q = rw (e, q) (alone (leb n highest))
     where
@@ -260,7 +256,7 @@ module _ (highest : ℕ) (s : List ℕ) (x : Performative) (e : performative s �
       ∙ ap (λ (a : Bool). require 6 (may_send p (eqb end (length s))) (λ _. require 7 a (λ _. accept x))) same_begins
 
 module _ (highest channel size : ℕ) (s : List ℕ) where
-  sent : (x : Performative) → session_performative highest s ≡ accept x → session_body highest channel size s ≡ accept (record { size = size; channel = channel; from = 8; content = some (said x) })
+  sent : (x : Performative) → session_performative highest s ≡ accept x → session_body highest channel size s ≡ accept (record { size = size; channel = channel; from = 8; content = Some (said x) })
   unfolding session_body
   sent x e = then_accept (session_performative highest s) _ x e
 
@@ -268,45 +264,44 @@ module _ (highest channel size : ℕ) (s : List ℕ) where
   unfolding session_body
   not_sent k e = then_refuse (session_performative highest s) _ k e
 
-  module _ (b : B.Body) (r : body_says b ≡ performative_said s) where
-    pub session_malformed : b ≡ Malformed → refuse 6 ≡ session_body highest channel size s
-    unfolding session_performative
-    session_malformed m = sym (not_sent 6 (then_refuse (performative s) _ 6 (malformed s b r m)))
+  pub session_malformed : refuse 6 ≡ performative_said s → refuse 6 ≡ session_body highest channel size s
+  unfolding session_performative
+  session_malformed r = sym (not_sent 6 (then_refuse (performative s) _ 6 (malformed s r)))
 
-    module _ (p : P.Performative) (end : ℕ) (m : b ≡ Read p end) where
-      found : Performative
-      found = (is_said s b r p end m).0
+  module _ (p : P.Performative) (end : ℕ) (r : accept (ending_at end p) ≡ performative_said s) where
+    found : Performative
+    found = (is_said s p end r).0
 
-      session_judged : session_performative highest s ≡ require 6 (may_send p (eqb end (length s))) (λ _. require 7 (begins_within highest p) (λ _. accept found))
-      unfolding found
-      session_judged = let i = is_said s b r p end m in judged highest s i.0 i.1 p end i.2
+    session_judged : session_performative highest s ≡ require 6 (may_send p (eqb end (length s))) (λ _. require 7 (begins_within highest p) (λ _. accept found))
+    unfolding found
+    session_judged = let i = is_said s p end r in judged highest s i.0 i.1 p end i.2
 
-      module _ (may : Bool) (y : may ≡ may_send p (eqb end (length s))) where
-        pub session_not : may ≡ false → refuse 6 ≡ session_body highest channel size s
+    module _ (may : Bool) (y : may ≡ may_send p (eqb end (length s))) where
+      pub session_not : may ≡ false → refuse 6 ≡ session_body highest channel size s
+      unfolding require
+      session_not n = sym (not_sent 6 (session_judged ∙ rw (← y, n)))
+
+      module _ (o : may ≡ true) (within : Bool) (g : within ≡ begins_within highest p) where
+        pub session_above : within ≡ false → refuse 7 ≡ session_body highest channel size s
         unfolding require
-        session_not n = sym (not_sent 6 (session_judged ∙ rw (← y, n)))
+        session_above n = sym (not_sent 7 (session_judged ∙ rw (← y, o, ← g, n)))
 
-        module _ (o : may ≡ true) (within : Bool) (g : within ≡ begins_within highest p) where
-          pub session_above : within ≡ false → refuse 7 ≡ session_body highest channel size s
-          unfolding require
-          session_above n = sym (not_sent 7 (session_judged ∙ rw (← y, o, ← g, n)))
-
-          pub session_body_lem : within ≡ true → accept (record { size = size; channel = channel; from = 8; content = some (ending_at end p) }) ≡ session_body highest channel size s
-          unfolding require found
-          session_body_lem n = sym (sent found (session_judged ∙ rw (← y, o, ← g, n)) ∙ rw (is_said s b r p end m).2)
+        pub session_body_lem : within ≡ true → accept (record { size = size; channel = channel; from = 8; content = Some (ending_at end p) }) ≡ session_body highest channel size s
+        unfolding require found
+        session_body_lem n = sym (sent found (session_judged ∙ rw (← y, o, ← g, n)) ∙ rw (is_said s p end r).2)
 
 -- ---- session_frame
 
-module _ (highest : ℕ) (s : List ℕ) (h : Header) (e : header_says h ≡ frame any_size any_channel s) where
-  pub session_refused : (k j : ℕ) → h ≡ NoFrame k → j ≡ refusal_in (header_says h) → refuse j ≡ session_answer highest s
+module _ (highest : ℕ) (s : List ℕ) (h : Result Header Refusal) (e : header_says h ≡ frame any_size any_channel s) where
+  pub session_refused : (k : Refusal) → h ≡ Err k → refuse (number_of k) ≡ session_answer highest s
   unfolding session_answer session_frame and_then
-  session_refused k j q r = rw (unopened any_size any_channel s h e k q, r, q)
+  session_refused k q = rw (unopened any_size any_channel s h e k q)
 
-  pub session_is : (size channel : ℕ) → h ≡ Is size channel → (v : Verdict FrameSaid) → v ≡ session_body highest channel size (take (size - 8) (drop 8 s)) → v ≡ session_answer highest s
+  pub session_is : (x : Header) → h ≡ Ok x → (v : Verdict FrameSaid) → v ≡ session_body highest x.channel x.size (take (x.size - 8) (drop 8 s)) → v ≡ session_answer highest s
   unfolding session_answer session_frame session_body and_then body_in
-  session_is size channel q v r = r ∙ rw (opened any_size any_channel s h e size channel q) (sym (flat (session_performative highest (take (size - 8) (drop 8 s)))))
+  session_is x q v r = r ∙ rw (opened any_size any_channel s h e x q) (sym (flat (session_performative highest (take (x.size - 8) (drop 8 s)))))
     where
-      flat : (v : Verdict Performative) → and_then (and_then v (λ p. accept (record { size = size; channel = channel; from = 8 }, p))) (λ r. accept (session_said r)) ≡ and_then v (λ p. accept (record { size = size; channel = channel; from = 8; content = some (said p) }))
+      flat : (v : Verdict Performative) → and_then (and_then v (λ p. accept (record { size = x.size; channel = x.channel; from = 8 }, p))) (λ r. accept (session_said r)) ≡ and_then v (λ p. accept (record { size = x.size; channel = x.channel; from = 8; content = Some (said p) }))
       flat (refuse k) = refl
       flat (accept p) = refl
 
@@ -347,36 +342,29 @@ unfolding and_then
 said_not (refuse j) k e = cc
 said_not (accept r) k e = apart (cc)
 
-stopped : (highest : ℕ) (s : List ℕ) (k : ℕ) (f : F.Frame) → frame_says f ≡ session_answer highest s → k ≡ refusal_in (frame_says f) → ((c z b : ℕ) (p : P.Performative) (n : ℕ) → f ≡ Body c z b p n → ⊥) → session_frame highest s ≡ refuse k
-unfolding session_answer
-stopped highest s k (Refused j) e q o = said_not _ k (sym e ∙ ap refuse (sym q))
-stopped highest s k (Empty c z b) e q o =
-    let a = said_body _ _ (sym e) in
-    let w : ◌≡◌ {A = Option Said} (some (said a.0.1)) none = ap (λ (x : FrameSaid). x.content) a.2 in
-    apart (cc)
-stopped highest s k (Body c z b p n) e q o = absurd (o c z b p n refl)
-
 -- a part to the end
 tail : (s : List ℕ) (a : ℕ) → take (length s - a) (drop a s) ≡ drop a s
 tail s a = take_all (length s - a) (drop a s) (omega (arith, length-drop a s))
 
-module _ (highest : ℕ) (s : List ℕ) (at count : ℕ) (i : Counted highest s at count) (h : at < length s) (f : F.Frame) (e : frame_says f ≡ session_answer highest (take (length s - at) (drop at s))) where
+module _ (highest : ℕ) (s : List ℕ) (at count : ℕ) (i : Counted highest s at count) (h : at < length s) (f : Result F.Frame Refusal) (e : frame_says f ≡ session_answer highest (take (length s - at) (drop at s))) where
   some_left : length (drop at s) ≡ 0 → ⊥
   some_left z = omega (arith, length-drop at s)
 
   rest_answers : frame_says f ≡ session_answer highest (drop at s)
   rest_answers = e ∙ ap (session_answer highest) (tail s at)
 
-  pub frames_stop : (k : ℕ) → k ≡ refusal_in (frame_says f) → ((c z b : ℕ) (p : P.Performative) (n : ℕ) → f ≡ Body c z b p n → ⊥) → refuse k ≡ session_frames highest s
-  unfolding and_then
-  frames_stop k q o = sym (i.2 ∙ rw (sessions_refused highest (drop at s) some_left k (stopped highest (drop at s) k f rest_answers q o)))
+  pub frames_stop : (k : Refusal) → f ≡ Err k → refuse (number_of k) ≡ session_frames highest s
+  unfolding and_then session_answer
+  frames_stop k q =
+      let stopped : session_frame highest (drop at s) ≡ refuse (number_of k) = said_not _ _ (sym rest_answers ∙ rw q) in
+      sym (i.2 ∙ rw (sessions_refused highest (drop at s) some_left (number_of k) stopped))
 
-  module _ (channel size from : ℕ) (p : P.Performative) (end : ℕ) (q : f ≡ Body channel size from p end) where
+  module _ (g : F.Frame) (q : f ≡ Ok g) (size : ℕ) (z : size ≡ (shown g).size) where
     first_is : (r : Frame × Performative) × (session_frame highest (drop at s) ≡ accept r) × (r.0.size ≡ size)
     unfolding session_answer
     first_is =
-        let a = said_body (session_frame highest (drop at s)) (record { size = size; channel = channel; from = from; content = some (ending_at end p) }) (sym rest_answers ∙ rw q) in
-        (a.0, a.1, ap (λ (x : FrameSaid). x.size) a.2)
+        let a = said_body (session_frame highest (drop at s)) (shown g) (sym rest_answers ∙ rw q) in
+        (a.0, a.1, ap (λ (x : FrameSaid). x.size) a.2 ∙ sym z)
 
     size_least : 8 ≤ size
     size_least = let r = first_is in omega (arith, (session_frame_lem highest (drop at s) r.0 r.1).header, r.2)

@@ -1,17 +1,15 @@
 -- What each case of an answer says, and of what passes between the private functions.
 -- Assumes nothing: these are definitions.
-use Rattle.std.specs.Prelude.{ℕ, Bool, ◌&&◌, ◌||◌, cond, List, [], eqb}
-use Rattle.std.proofs.Math.Option.{none, some}
+use Rattle.std.specs.Prelude.{ℕ, Bool, ◌&&◌, ◌||◌, cond, List, [], eqb, None, Some, Result, Ok, Err}
 use Rattle.octets.specs.Verdict.{Verdict, refuse, accept, and_then}
+use Rattle.octets.specs.Refusal.{number_of}
+use Rattle.octets.specs.declared.Refusal.{Refusal}
 use Rattle.performatives.specs.declared.Performative.{Performative}
 use Rattle.performatives.specs.Performative.{Said, said}
 use Rattle.performatives.specs.Answers.{performative_says}
 use Rattle.frame_decoder.specs.declared.Frame as F
-use Rattle.frame_decoder.specs.declared.Frame.TheVariants.{Refused, Empty, Body}
-use Rattle.frame_decoder.specs.declared.Frames.{Frames}
-use Rattle.frame_decoder.specs.declared.Frames.TheVariants.{Are, Refused as NotAll}
+use Rattle.frame_decoder.specs.declared.Frame.TheVariants.{Empty, Body}
 use Rattle.frame_decoder.specs.declared.Header.{Header}
-use Rattle.frame_decoder.specs.declared.Header.TheVariants.{Is, Refused as NoFrame}
 use Rattle.frame_decoder.specs.Frame.{Frame, FrameSaid, read_frame, frame_said, is_session, within, session_performative, session_frame, session_said}
 
 -- ---- what is to be answered
@@ -30,28 +28,22 @@ session_answer highest s = and_then (session_frame highest s) (λ r. accept (ses
 abbrev pub ending_at : ℕ → Performative → Said
 ending_at end p = record { code = (performative_says p).0; end = end; values = (performative_says p).1 }
 
--- a refusal's number; an empty frame; a frame with a performative
-abbrev pub frame_says : F.Frame → Verdict FrameSaid
-frame_says (Refused k) = refuse k
-frame_says (Empty channel size from) = accept (record { size = size; channel = channel; from = from; content = none })
-frame_says (Body channel size from p end) = accept (record { size = size; channel = channel; from = from; content = some (ending_at end p) })
+-- an empty frame; a frame with a performative
+abbrev pub shown : F.Frame → FrameSaid
+shown (Empty channel size from) = record { size = size; channel = channel; from = from; content = None }
+shown (Body channel size from p end) = record { size = size; channel = channel; from = from; content = Some (ending_at end p) }
 
--- how many frames there are; a refusal's number
-abbrev pub frames_say : Frames → Verdict ℕ
-frames_say (Are n) = accept n
-frames_say (NotAll k) = refuse k
+-- a frame; a refusal's number
+abbrev pub frame_says : Result F.Frame Refusal → Verdict FrameSaid
+frame_says (Ok f) = accept (shown f)
+frame_says (Err e) = refuse (number_of e)
 
 -- ---- between the private functions
 
--- a refusal's number; a frame by its header
-abbrev pub header_says : Header → Verdict Frame
-header_says (NoFrame k) = refuse k
-header_says (Is size channel) = accept (record { size = size; channel = channel; from = 8 })
-
--- the number of a refusal; 0 where there is none
-abbrev pub refusal_in : {A : Type 0} → Verdict A → ℕ
-refusal_in (refuse k) = k
-refusal_in (accept a) = 0
+-- a frame by its header; a refusal's number
+abbrev pub header_says : Result Header Refusal → Verdict Frame
+header_says (Ok h) = accept (record { size = h.size; channel = h.channel; from = 8 })
+header_says (Err e) = refuse (number_of e)
 
 -- whether a session may send it, by whether it fills its frame's body
 unfoldable pub may_send : Performative → Bool → Bool
@@ -64,4 +56,4 @@ begins_within highest p = within highest (cond (eqb (performative_says p).0 17) 
 -- the frame of this channel and size, with a session's performative at the front of its body s
 unfoldable pub session_body : ℕ → ℕ → ℕ → List ℕ → Verdict FrameSaid
 session_body highest channel size s =
-    and_then (session_performative highest s) (λ p. accept (record { size = size; channel = channel; from = 8; content = some (said p) }))
+    and_then (session_performative highest s) (λ p. accept (record { size = size; channel = channel; from = 8; content = Some (said p) }))

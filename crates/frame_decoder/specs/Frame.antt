@@ -1,7 +1,6 @@
 -- Frames read: Part 2 section 2.3, with the limits and the order of refusals of document 01.
 -- Assumes nothing: these are definitions.
-use Rattle.std.specs.Prelude.{ℕ, zero, suc, ◌-◌, Bool, true, false, ◌&&◌, ◌||◌, List, [], ◌∷◌, length, take, drop, get_or, leb, eqb}
-use Rattle.std.proofs.Math.Option.{Option, none, some}
+use Rattle.std.specs.Prelude.{ℕ, zero, suc, ◌-◌, Bool, true, false, ◌&&◌, ◌||◌, List, [], ◌∷◌, length, take, drop, get_or, leb, eqb, Option, None, Some}
 use Rattle.octets.specs.Verdict.{Verdict, refuse, accept, require, and_then}
 use Rattle.octets.specs.Octets.{big_endian}
 use Rattle.performatives.specs.Performative.{Performative, performative, remote_channel, Said, said}
@@ -60,12 +59,12 @@ abbrev pub holding : Frame → Option Said → FrameSaid
 holding f c = record { size = f.size; channel = f.channel; from = f.from; content = c }
 
 unfoldable pub content : List ℕ → Verdict (Option Performative)
-content [] = accept none
-content (b ∷ s) = and_then (performative (b ∷ s)) (λ p. accept (some p))
+content [] = accept None
+content (b ∷ s) = and_then (performative (b ∷ s)) (λ p. accept (Some p))
 
 abbrev pub said_of : Option Performative → Option Said
-said_of none = none
-said_of (some p) = some (said p)
+said_of None = None
+said_of (Some p) = Some (said p)
 
 -- 1, 3, 4, 1, 5, 7, 6
 unfoldable pub read_frame : ℕ → ℕ → List ℕ → Verdict (Frame × Option Performative)
@@ -107,7 +106,7 @@ session_frame highest s =
     accept (f, p)))
 
 abbrev pub session_said : Frame × Performative → FrameSaid
-session_said r = holding r.0 (some (said r.1))
+session_said r = holding r.0 (Some (said r.1))
 
 abbrev pub unless_done : List ℕ → (Unit {0} → Verdict ℕ) → Verdict ℕ
 unless_done [] more = accept 0

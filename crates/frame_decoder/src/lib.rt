@@ -2,20 +2,21 @@
 #![tactic(auto)]
 
 ghost use Rattle.std.specs.Prelude.{◌≡◌};
+ghost use Rattle.octets.specs.Refusal.{judged};
 ghost use Rattle.frame_decoder.specs.Frame.{frame, body_of, session_frames};
 ghost use Rattle.frame_decoder.specs.Answers.{
   header_says,
-  refusal_in,
   may_send,
   begins_within,
   session_body,
+  shown,
   frame_says,
   frame_answer,
   session_answer,
-  frames_say,
 };
 
-use performatives::{Body, Performative, RemoteChannel};
+use octets::Refusal;
+use performatives::{Body, Performative};
 
 // The type of AMQP frames.
 const FRAME_TYPE_AMQP: u8 = 0;
@@ -29,11 +30,10 @@ const ANY_SIZE: u32 = 4294967295;
 // A highest channel that no channel is above.
 const ANY_CHANNEL: u16 = 65535;
 
-// What reading a frame answers: the number of its refusal, a frame that has no body, or one that has a performative. It takes `size` bytes, its body
+// A frame that was read: one that has no body, or one that has a performative. It takes `size` bytes, its body
 // starts at `from`, and the performative ends `end` bytes after that.
 #[derive(Clone, Copy)]
 pub enum Frame {
-    Refused(u8),
     Empty {
         channel: u16,
         size: usize,
@@ -48,127 +48,101 @@ pub enum Frame {
     },
 }
 
-// How many frames there are, or the refusal of the first that is refused.
+// What a frame's header says.
 #[derive(Clone, Copy)]
-pub enum Frames {
-    Are(usize),
-    Refused(u8),
-}
-
-// What a frame's header says, or the refusal of the frame.
-#[derive(Clone, Copy)]
-enum Header {
-    Refused(u8),
-    Is { size: usize, channel: u16 },
-}
-
-impl Header {
-    // The number of the refusal; 0 where there is none.
-    fn refusal(self) -> u8
-        ensures { result ≡ refusal_in (header_says self) }
-    {
-        match self {
-            Header::Refused(k) => k,
-            Header::Is {
-                size: _,
-                channel: _,
-            } => 0,
-        }
-    }
+struct Header {
+    size: usize,
+    channel: u16,
 }
 
 impl Frame {
-    // The number of the refusal; 0 where there is none.
-    fn refusal(self) -> u8
-        ensures { result ≡ refusal_in (frame_says self) }
+    // How many bytes the frame takes.
+    fn size(self) -> usize
+        ensures { result ≡ (shown self).size }
     {
         match self {
-            Frame::Refused(k) => k,
             Frame::Empty {
                 channel: _,
-                size: _,
+                size,
                 from: _,
-            } => 0,
+            } => size,
             Frame::Body {
                 channel: _,
-                size: _,
+                size,
                 from: _,
                 performative: _,
                 end: _,
-            } => 0,
+            } => size,
         }
     }
 }
 
 // Judges the header of the frame that the bytes start with, and whether the whole frame is there.
-fn read_header(s: &[u8], limit: u32, highest: u16) -> Header
+fn read_header(s: &[u8], limit: u32, highest: u16) -> Result<Header, Refusal>
     ensures { header_says result ≡ frame limit highest s.now }
 {
     if s.len() < 4 {
-        return Header::Refused(1);
+        return Err(Refusal::BytesMissing);
     }
     let size = octets::number(&s[..4]) as usize;
     if size < HEADER_SIZE {
-        return Header::Refused(3);
+        return Err(Refusal::TooShort);
     }
     if (limit as usize) < size {
-        return Header::Refused(4);
+        return Err(Refusal::OverReadingLimit);
     }
     if s.len() < size {
-        return Header::Refused(1);
+        return Err(Refusal::BytesMissing);
     }
     // a header that is extended has a greater doff
     let doff = s[4];
     if doff != 2 {
-        return Header::Refused(5);
+        return Err(Refusal::WrongType);
     }
     let ftype = s[5];
     if ftype != FRAME_TYPE_AMQP {
-        return Header::Refused(5);
+        return Err(Refusal::WrongType);
     }
     let channel = octets::number(&s[6..8]) as u16;
     if highest < channel {
-        return Header::Refused(7);
+        return Err(Refusal::ChannelTooHigh);
     }
-    Header::Is { size, channel }
+    Ok(Header { size, channel })
 }
 
 // The body of the frame that the bytes start with, its performative and payload: that very part of them. Nothing where they start with no frame.
 pub fn body(s: &[u8]) -> &[u8]
     ensures { result.now ≡ body_of s.now }
 {
-    let Header::Is { size, channel: _ } = read_header(s, ANY_SIZE, ANY_CHANNEL) else {
+    let Ok(header) = read_header(s, ANY_SIZE, ANY_CHANNEL) else {
         return &s[..0];
     };
-    &s[HEADER_SIZE..size]
+    &s[HEADER_SIZE..header.size]
 }
 
 // Reads the frame that the bytes start with, of at most `limit` bytes and on a channel that is at most `highest`. Bytes after it are not looked at.
-pub fn read(s: &[u8], limit: u32, highest: u16) -> Frame
+pub fn read(s: &[u8], limit: u32, highest: u16) -> Result<Frame, Refusal>
     ensures { frame_says result ≡ frame_answer limit highest s.now }
 {
-    let header = read_header(s, limit, highest);
-    let Header::Is { size, channel } = header else {
-        return Frame::Refused(header.refusal());
-    };
+    let Header { size, channel } = read_header(s, limit, highest)?;
     let from = HEADER_SIZE;
     if size == from {
-        return Frame::Empty {
+        return Ok(Frame::Empty {
             channel,
             size,
             from,
-        };
+        });
     }
-    let Body::Is { performative, end } = performatives::read(&s[from..size]) else {
-        return Frame::Refused(6);
+    let Some(Body { performative, end }) = performatives::read(&s[from..size]) else {
+        return Err(Refusal::BodyMalformed);
     };
-    Frame::Body {
+    Ok(Frame::Body {
         channel,
         size,
         from,
         performative,
         end,
-    }
+    })
 }
 
 // Whether a session may send it, where `whole` says that it fills its frame's body: Begin to End, of which only a Transfer has a payload after it.
@@ -199,65 +173,53 @@ fn begins_within(performative: Performative, highest: u16) -> bool
     let Performative::Begin(remote) = performative else {
         return true;
     };
-    let RemoteChannel::Is(n) = remote else {
+    let Some(n) = remote else {
         return true;
     };
     n <= highest
 }
 
 // A frame of which the body is read, where a session may send it.
-fn session_body(body: &[u8], channel: u16, size: usize, highest: u16) -> Frame
+fn session_body(body: &[u8], channel: u16, size: usize, highest: u16) -> Result<Frame, Refusal>
     ensures { frame_says result ≡ session_body highest channel size body.now }
 {
-    let Body::Is { performative, end } = performatives::read(body) else {
-        return Frame::Refused(6);
+    let Some(Body { performative, end }) = performatives::read(body) else {
+        return Err(Refusal::BodyMalformed);
     };
     if !may_send(performative, end == body.len()) {
-        return Frame::Refused(6);
+        return Err(Refusal::BodyMalformed);
     }
     if !begins_within(performative, highest) {
-        return Frame::Refused(7);
+        return Err(Refusal::ChannelTooHigh);
     }
-    Frame::Body {
+    Ok(Frame::Body {
         channel,
         size,
         from: HEADER_SIZE,
         performative,
         end,
-    }
+    })
 }
 
 // Reads the session's frame that the bytes start with and that is to be sent. A Begin's remote-channel is at most `highest`.
-pub fn session_frame(s: &[u8], highest: u16) -> Frame
+pub fn session_frame(s: &[u8], highest: u16) -> Result<Frame, Refusal>
     ensures { frame_says result ≡ session_answer highest s.now }
 {
-    let header = read_header(s, ANY_SIZE, ANY_CHANNEL);
-    let Header::Is { size, channel } = header else {
-        return Frame::Refused(header.refusal());
-    };
+    let Header { size, channel } = read_header(s, ANY_SIZE, ANY_CHANNEL)?;
     session_body(&s[HEADER_SIZE..size], channel, size, highest)
 }
 
 // Counts the session's frames that the bytes are, one after the other. The first that is refused decides.
-pub fn session_frames(s: &[u8], highest: u16) -> Frames
-    ensures { frames_say result ≡ session_frames highest s.now }
+pub fn session_frames(s: &[u8], highest: u16) -> Result<usize, Refusal>
+    ensures { judged result ≡ session_frames highest s.now }
 {
     let mut at: usize = 0;
     let mut count: usize = 0;
+    // (A `while`: how far a turn goes stands in the frame.)
     while at < s.len() {
-        let frame = session_frame(&s[at..], highest);
-        let Frame::Body {
-            channel: _,
-            size,
-            from: _,
-            performative: _,
-            end: _,
-        } = frame
-        else {
-            return Frames::Refused(frame.refusal());
-        };
-        at += size;
+        let frame = session_frame(&s[at..], highest)?;
+        at += frame.size();
         count += 1;
     }
-    Frames::Are(count)
+    Ok(count)
 }

@@ -13,7 +13,8 @@ use borrow.Author.Tests.{le-leb, lt-leb, leb-true}
 use Rattle.octets.specs.Verdict.{refuse, accept, require}
 use Rattle.octets.specs.Octets.{bytes_of, put, starts_with}
 use Rattle.octets.specs.Output.{Wrote}
-use Rattle.octets.specs.declared.Written.TheVariants.{Bytes, Refused}
+use Rattle.octets.specs.declared.Refusal.TheVariants.{OutOfBounds, NoRoom, OverWritingLimit}
+use Rattle.std.specs.Prelude.{Ok, Err}
 use Rattle.octets.proofs.Laws.{put_next, room_yes, room_no, wrote_no, wrote_yes}
 use Rattle.text.specs.Utf8.{utf8}
 use Rattle.values.specs.Null.{is_null}
@@ -67,18 +68,18 @@ module _ (ok : Bool) (limit : ℕ) (bytes out : List ℕ) where
 
 -- what the writers show at each return
 module _ (ok : Bool) (limit : ℕ) (bytes out : List ℕ) where
-  pub wrote_9 : length out < 16384 → Wrote (write_frame ok limit bytes out) (Refused 9) out out
-  wrote_9 h = wrote_no _ 9 out (frame_9 ok limit bytes out h)
+  pub wrote_9 : length out < 16384 → Wrote (write_frame ok limit bytes out) (Err NoRoom) out out
+  wrote_9 h = wrote_no _ NoRoom out (frame_9 ok limit bytes out h)
 
   module _ (room : 16384 ≤ length out) where
-    pub wrote_8 : ok ≡ false → Wrote (write_frame ok limit bytes out) (Refused 8) out out
-    wrote_8 e = wrote_no _ 8 out (frame_8 ok limit bytes out room e)
+    pub wrote_8 : ok ≡ false → Wrote (write_frame ok limit bytes out) (Err OutOfBounds) out out
+    wrote_8 e = wrote_no _ OutOfBounds out (frame_8 ok limit bytes out room e)
 
     module _ (fine : ok ≡ true) (n : ℕ) (l : n ≡ length bytes) where
-      pub wrote_27 : limit < n → Wrote (write_frame ok limit bytes out) (Refused 27) out out
-      wrote_27 h = wrote_no _ 27 out (frame_27 ok limit bytes out room fine n l h)
+      pub wrote_27 : limit < n → Wrote (write_frame ok limit bytes out) (Err OverWritingLimit) out out
+      wrote_27 h = wrote_no _ OverWritingLimit out (frame_27 ok limit bytes out room fine n l h)
 
-      pub wrote_frame : n ≤ limit → n ≤ 16384 → (o : List ℕ) → o ≡ put out 0 bytes → Wrote (write_frame ok limit bytes out) (Bytes n) out o
+      pub wrote_frame : n ≤ limit → n ≤ 16384 → (o : List ℕ) → o ≡ put out 0 bytes → Wrote (write_frame ok limit bytes out) (Ok n) out o
       wrote_frame h k o q = wrote_yes _ bytes n out o (frame_yes ok limit bytes out room fine n l h k) l (omega arith) q
 
 -- ---- a frame that holds a described list

@@ -3,7 +3,8 @@
 use mathlib.Core.Path.{◌≡◌, refl, sym, ap, ◌∙◌}
 use mathlib.Core.Bool.{Bool, true, false, false≢true}
 use mathlib.Core.List.{List, [], ◌∷◌, ◌++◌, append_assoc, append-nil}
-use mathlib.Core.Option.{none, some}
+use denote.Ref.{Bor}
+use Rattle.std.specs.Prelude.{Option, None, Some, Ok, Err, option_copied}
 use Prim.Native.Nat.{ℕ, ◌+◌, ◌*◌, ◌<◌, ◌≤◌}
 use native.Mathlib.Omega.{arith}
 use lib.ListN.{length, length-append}
@@ -14,7 +15,7 @@ use borrow.Author.Tests.{le-leb, lt-leb, leb-true}
 use Rattle.octets.specs.Octets.{bytes_of, put, starts_with}
 use Rattle.octets.specs.Verdict.{Verdict}
 use Rattle.octets.specs.Output.{Wrote}
-use Rattle.octets.specs.declared.Written.TheVariants.{Bytes, Refused}
+use Rattle.octets.specs.declared.Refusal.TheVariants.{OutOfBounds, NoRoom, OverWritingLimit}
 use Rattle.octets.proofs.Laws.{length_put, put_more, put_next}
 use Rattle.text.specs.Utf8.{utf8}
 use Rattle.text.specs.Ascii.{ascii}
@@ -24,10 +25,8 @@ use Rattle.serializer.specs.declared.Text.TheVariants.{String, Symbol}
 use Rattle.serializer.specs.Answers.{code_of}
 use Rattle.serializer.specs.Written.{list_header, uint, ushort, text, text_header, joined, trimmed, composite_header, composite}
 use Rattle.serializer.proofs.Laws.{one_byte, header_few}
-use Rattle.frame_encoder.specs.declared.IdleTimeOut.{IdleTimeOut}
-use Rattle.frame_encoder.specs.declared.IdleTimeOut.TheVariants.{Never, Millis}
-use Rattle.frame_encoder.specs.Frames.{ErrorText, frame_header, frame_bytes, settings_ok, idle_field, idle_kept, open_fields, write_open, description_ok, error_ok, description_field, error_fields, error_field, write_close, write_empty}
-use Rattle.frame_encoder.specs.Answers.{idle_said, settings, given, error_text, Sized, ErrorSized, Short, ErrorRoom}
+use Rattle.frame_encoder.specs.Frames.{Settings, ErrorText, frame_header, frame_bytes, settings_ok, idle_field, idle_kept, open_fields, write_open, description_ok, error_ok, description_field, error_fields, error_field, write_close, write_empty}
+use Rattle.frame_encoder.specs.Answers.{Sized, ErrorSized, Short, ErrorRoom}
 use Rattle.frame_encoder.proofs.Laws.{header_bytes_lem, length_header, settings_within, uint_not_null, wrote_9, wrote_8, wrote_27, wrote_frame, framed_length, framed}
 
 -- ---- put_frame_header
@@ -70,49 +69,52 @@ module _ (container_id : List ℕ) (max_frame_size channel_max : ℕ) where
 
 -- ---- the fields of an Open
 
-module _ (container_id : List ℕ) (max_frame_size channel_max : ℕ) where
-  trimmed_never : trimmed (open_fields (settings container_id max_frame_size channel_max Never)) ≡ text 0xa1 container_id ∷ null ∷ uint max_frame_size ∷ ushort channel_max ∷ []
+module _ (S : Settings) where
+  trimmed_never : S.idle_time_out ≡ None → trimmed (open_fields S) ≡ text 0xa1 S.container_id ∷ null ∷ uint S.max_frame_size ∷ ushort S.channel_max ∷ []
   unfolding open_fields idle_field trimmed starts_with ushort
-  trimmed_never = refl
+  trimmed_never e = rw e refl
 
-  trimmed_millis : (n : ℕ) → trimmed (open_fields (settings container_id max_frame_size channel_max (Millis n))) ≡ text 0xa1 container_id ∷ null ∷ uint max_frame_size ∷ ushort channel_max ∷ uint n ∷ []
+  trimmed_millis : (n : ℕ) → S.idle_time_out ≡ Some n → trimmed (open_fields S) ≡ text 0xa1 S.container_id ∷ null ∷ uint S.max_frame_size ∷ ushort S.channel_max ∷ uint n ∷ []
   unfolding open_fields idle_field trimmed
-  trimmed_millis n = rw (uint_not_null n)
+  trimmed_millis n e = rw e (rw (uint_not_null n))
 
-  pub open_joined : (idle : IdleTimeOut) → joined (trimmed (open_fields (settings container_id max_frame_size channel_max idle))) ≡ text 0xa1 container_id ++ (null ++ (uint max_frame_size ++ (ushort channel_max ++ idle_kept (idle_said idle))))
+  joined_by : (idle : Option ℕ) → S.idle_time_out ≡ idle → joined (trimmed (open_fields S)) ≡ text 0xa1 S.container_id ++ (null ++ (uint S.max_frame_size ++ (ushort S.channel_max ++ idle_kept idle)))
   unfolding joined idle_kept
-  open_joined Never = rw trimmed_never
-  open_joined (Millis n) = rw (trimmed_millis n, append-nil (uint n))
+  joined_by None e = rw (trimmed_never e)
+  joined_by (Some n) e = rw (trimmed_millis n e, append-nil (uint n))
+
+  open_joined : joined (trimmed (open_fields S)) ≡ text 0xa1 S.container_id ++ (null ++ (uint S.max_frame_size ++ (ushort S.channel_max ++ idle_kept S.idle_time_out)))
+  open_joined = joined_by S.idle_time_out refl
 
   -- how many there are, and their bytes
-  module _ (a b : ℕ) (p : a ≡ length (text 0xa1 container_id)) (q : b ≡ length (uint max_frame_size)) (la : a ≤ 5 + length container_id) (lb : b ≤ 5) (short : length container_id ≤ 255) where
-    pub open_never : (idle : IdleTimeOut) → idle ≡ Never → Sized (open_fields (settings container_id max_frame_size channel_max idle)) 4 (a + 1 + b + 3)
+  module _ (a b : ℕ) (p : a ≡ length (text 0xa1 S.container_id)) (q : b ≡ length (uint S.max_frame_size)) (la : a ≤ 5 + length S.container_id) (lb : b ≤ 5) (short : length S.container_id ≤ 255) where
+    pub open_never : S.idle_time_out ≡ None → Sized (open_fields S) 4 (a + 1 + b + 3)
     unfolding joined ushort bytes_of
-    open_never idle e =
-        let t : trimmed (open_fields (settings container_id max_frame_size channel_max idle)) ≡ text 0xa1 container_id ∷ null ∷ uint max_frame_size ∷ ushort channel_max ∷ [] = rw e trimmed_never in
+    open_never e =
+        let t : trimmed (open_fields S) ≡ text 0xa1 S.container_id ∷ null ∷ uint S.max_frame_size ∷ ushort S.channel_max ∷ [] = trimmed_never e in
         record {
           counts = rw t;
-          sizes = rw t (omega (arith, length-append (text 0xa1 container_id) (null ++ (uint max_frame_size ++ (ushort channel_max ++ []))), length-append (uint max_frame_size) (ushort channel_max ++ [])));
+          sizes = rw t (omega (arith, length-append (text 0xa1 S.container_id) (null ++ (uint S.max_frame_size ++ (ushort S.channel_max ++ []))), length-append (uint S.max_frame_size) (ushort S.channel_max ++ [])));
           small = omega arith;
         }
 
-    pub open_millis : (idle : IdleTimeOut) (n k : ℕ) → idle ≡ Millis n → k ≡ length (uint n) → k ≤ 5 → Sized (open_fields (settings container_id max_frame_size channel_max idle)) 5 (a + 1 + b + 3 + k)
+    pub open_millis : (n k : ℕ) → S.idle_time_out ≡ Some n → k ≡ length (uint n) → k ≤ 5 → Sized (open_fields S) 5 (a + 1 + b + 3 + k)
     unfolding joined ushort bytes_of
-    open_millis idle n k e r lk =
-        let t : trimmed (open_fields (settings container_id max_frame_size channel_max idle)) ≡ text 0xa1 container_id ∷ null ∷ uint max_frame_size ∷ ushort channel_max ∷ uint n ∷ [] = rw e (trimmed_millis n) in
+    open_millis n k e r lk =
+        let t : trimmed (open_fields S) ≡ text 0xa1 S.container_id ∷ null ∷ uint S.max_frame_size ∷ ushort S.channel_max ∷ uint n ∷ [] = trimmed_millis n e in
         record {
           counts = rw t;
-          sizes = rw t (omega (arith, length-append (text 0xa1 container_id) (null ++ (uint max_frame_size ++ (ushort channel_max ++ (uint n ++ [])))), length-append (uint max_frame_size) (ushort channel_max ++ (uint n ++ [])), length-append (uint n) []));
+          sizes = rw t (omega (arith, length-append (text 0xa1 S.container_id) (null ++ (uint S.max_frame_size ++ (ushort S.channel_max ++ (uint n ++ [])))), length-append (uint S.max_frame_size) (ushort S.channel_max ++ (uint n ++ [])), length-append (uint n) []));
           small = omega arith;
         }
 
 -- ---- put_idle
 
-pub idle_never : (o d : List ℕ) (at : ℕ) (idle : IdleTimeOut) → idle ≡ Never → o ≡ put d at (bytes_of 0 0) → o ≡ put d at (idle_kept (idle_said idle))
+pub idle_never : (o d : List ℕ) (at : ℕ) (idle : Option ℕ) → idle ≡ None → o ≡ put d at (bytes_of 0 0) → o ≡ put d at (idle_kept idle)
 unfolding idle_kept bytes_of
 idle_never o d at idle e q = rw e q
 
-pub idle_millis : (o d : List ℕ) (at : ℕ) (idle : IdleTimeOut) (n : ℕ) → idle ≡ Millis n → o ≡ put d at (uint n) → o ≡ put d at (idle_kept (idle_said idle))
+pub idle_millis : (o d : List ℕ) (at : ℕ) (idle : Option ℕ) (n : ℕ) → idle ≡ Some n → o ≡ put d at (uint n) → o ≡ put d at (idle_kept idle)
 unfolding idle_kept
 idle_millis o d at idle n e q = rw e q
 
@@ -139,16 +141,16 @@ five_puts a b c e f d at n m o₁ o₂ o₃ o₄ o₅ la lb lc le room p₁ p₂
     let s₅ : o₅ ≡ put d at ((((a ++ b) ++ c) ++ e) ++ f) = put_more (((a ++ b) ++ c) ++ e) f d o₄ o₅ at (at + n + 1 + m + 3) (omega arith) (omega arith) s₄ p₅ in
     s₅ ∙ simp append_assoc
 
-pub open_laid : (container_id : List ℕ) (max_frame_size channel_max : ℕ) (idle : IdleTimeOut) (d : List ℕ) (at n m : ℕ) (o₁ o₂ o₃ o₄ o₅ : List ℕ)
-    → at + length (joined (trimmed (open_fields (settings container_id max_frame_size channel_max idle)))) ≤ length d
-    → n ≡ length (text 0xa1 container_id) → m ≡ length (uint max_frame_size)
-    → o₁ ≡ put d at (text 0xa1 container_id) → o₂ ≡ put o₁ (at + n) (bytes_of 1 64) → o₃ ≡ put o₂ (at + n + 1) (uint max_frame_size)
-    → o₄ ≡ put o₃ (at + n + 1 + m) (ushort channel_max) → o₅ ≡ put o₄ (at + n + 1 + m + 3) (idle_kept (idle_said idle))
-    → o₅ ≡ put d at (joined (trimmed (open_fields (settings container_id max_frame_size channel_max idle))))
-open_laid container_id max_frame_size channel_max idle d at n m o₁ o₂ o₃ o₄ o₅ room ln lm p₁ p₂ p₃ p₄ p₅ =
-    rw (open_joined container_id max_frame_size channel_max idle)
-    (five_puts (text 0xa1 container_id) null (uint max_frame_size) (ushort channel_max) (idle_kept (idle_said idle)) d at n m o₁ o₂ o₃ o₄ o₅ ln refl lm (ushort_three channel_max)
-    (rw (open_joined container_id max_frame_size channel_max idle) at room) p₁ (rw (one_byte 64 (omega arith)) at p₂) p₃ p₄ p₅)
+pub open_laid : (S : Settings) (d : List ℕ) (at n m : ℕ) (o₁ o₂ o₃ o₄ o₅ : List ℕ)
+    → at + length (joined (trimmed (open_fields S))) ≤ length d
+    → n ≡ length (text 0xa1 S.container_id) → m ≡ length (uint S.max_frame_size)
+    → o₁ ≡ put d at (text 0xa1 S.container_id) → o₂ ≡ put o₁ (at + n) (bytes_of 1 64) → o₃ ≡ put o₂ (at + n + 1) (uint S.max_frame_size)
+    → o₄ ≡ put o₃ (at + n + 1 + m) (ushort S.channel_max) → o₅ ≡ put o₄ (at + n + 1 + m + 3) (idle_kept S.idle_time_out)
+    → o₅ ≡ put d at (joined (trimmed (open_fields S)))
+open_laid S d at n m o₁ o₂ o₃ o₄ o₅ room ln lm p₁ p₂ p₃ p₄ p₅ =
+    rw (open_joined S)
+    (five_puts (text 0xa1 S.container_id) null (uint S.max_frame_size) (ushort S.channel_max) (idle_kept S.idle_time_out) d at n m o₁ o₂ o₃ o₄ o₅ ln refl lm (ushort_three S.channel_max)
+    (rw (open_joined S) at room) p₁ (rw (one_byte 64 (omega arith)) at p₂) p₃ p₄ p₅)
 
 -- ---- write_open
 
@@ -164,26 +166,26 @@ fields_room fs code count size n at d o h z e a room p =
     let m : size ≤ 1000 = z.small in
     omega arith
 
-module _ (container_id : List ℕ) (max_frame_size channel_max : ℕ) (idle : IdleTimeOut) (limit : ℕ) (out : List ℕ) where
+module _ (S : Settings) (limit : ℕ) (out : List ℕ) where
   abbrev rule : Verdict (List ℕ)
-  rule = write_open (settings container_id max_frame_size channel_max idle) limit out
+  rule = write_open S limit out
 
-  pub open_9 : length out < 16384 → Wrote rule (Refused 9) out out
+  pub open_9 : length out < 16384 → Wrote rule (Err NoRoom) out out
   unfolding write_open
   open_9 h = wrote_9 _ limit _ out h
 
-  module _ (room : 16384 ≤ length out) (b : Bool) (ok : b ≡ settings_ok container_id max_frame_size channel_max) where
-    pub open_8 : b ≡ false → Wrote rule (Refused 8) out out
+  module _ (room : 16384 ≤ length out) (b : Bool) (ok : b ≡ settings_ok S.container_id S.max_frame_size S.channel_max) where
+    pub open_8 : b ≡ false → Wrote rule (Err OutOfBounds) out out
     unfolding write_open
     open_8 e = wrote_8 _ limit _ out room (sym ok ∙ e)
 
-    module _ (fine : b ≡ true) (count size n : ℕ) (z : Sized (open_fields (settings container_id max_frame_size channel_max idle)) count size) (l : n ≡ 8 + length (composite_header 16 count size) + size) where
-      pub open_27 : limit < n → Wrote rule (Refused 27) out out
+    module _ (fine : b ≡ true) (count size n : ℕ) (z : Sized (open_fields S) count size) (l : n ≡ 8 + length (composite_header 16 count size) + size) where
+      pub open_27 : limit < n → Wrote rule (Err OverWritingLimit) out out
       unfolding write_open
       open_27 h = wrote_27 _ limit _ out room (sym ok ∙ fine) n (framed_length 16 count size _ z.counts z.sizes n l) h
 
       pub open_wrote : n ≤ limit → (at : ℕ) (o₁ o₂ : List ℕ) → at ≡ 8 + length (composite_header 16 count size)
-          → o₁ ≡ put out 0 (frame_header n 0 ++ composite_header 16 count size) → o₂ ≡ put o₁ at (joined (trimmed (open_fields (settings container_id max_frame_size channel_max idle)))) → Wrote rule (Bytes n) out o₂
+          → o₁ ≡ put out 0 (frame_header n 0 ++ composite_header 16 count size) → o₂ ≡ put o₁ at (joined (trimmed (open_fields S))) → Wrote rule (Ok n) out o₂
       unfolding write_open
       open_wrote h at o₁ o₂ a p q =
           let few : length (composite_header 16 count size) ≤ 12 = header_few 16 count size in
@@ -193,45 +195,33 @@ module _ (container_id : List ℕ) (max_frame_size channel_max : ℕ) (idle : Id
 
 -- ---- error_ok
 
-module _ (b : Bool) (d : List ℕ) where
-  module _ (t : b ≡ true) where
-    pub description_long : 255 < length d → false ≡ description_ok (given b d)
-    description_long h = rw (t, lt-leb _ _ h)
-
-    pub description_text : length d ≤ 255 → (r : Bool) → r ≡ utf8 d → r ≡ description_ok (given b d)
-    description_text h r e = rw (t, le-leb _ _ h) e
-
-  pub description_none : b ≡ false → true ≡ description_ok (given b d)
-  description_none t = rw t
-
-module _ (k : List ℕ) (b : Bool) (d : List ℕ) where
-  pub condition_long : 255 < length k → false ≡ error_ok (error_text k b d)
+module _ (t : ErrorText) where
+  pub condition_long : 255 < length t.condition → false ≡ error_ok t
   unfolding error_ok
   condition_long h = rw (lt-leb _ _ h)
 
-  module _ (short : length k ≤ 255) (a : Bool) (u : a ≡ ascii k) where
-    pub condition_no_text : a ≡ false → false ≡ error_ok (error_text k b d)
+  module _ (short : length t.condition ≤ 255) (a : Bool) (u : a ≡ ascii t.condition) where
+    pub condition_no_text : a ≡ false → false ≡ error_ok t
     unfolding error_ok
     condition_no_text e = rw (le-leb _ _ short, ← u, e)
 
-    pub condition_text : a ≡ true → (r : Bool) → r ≡ description_ok (given b d) → r ≡ error_ok (error_text k b d)
+    pub condition_text : a ≡ true → (r : Bool) → r ≡ description_ok t.description → r ≡ error_ok t
     unfolding error_ok
-    condition_text t r e = rw (le-leb _ _ short, ← u, t) e
+    condition_text x r e = rw (le-leb _ _ short, ← u, x) e
 
-description_is_short : (b : Bool) (d : List ℕ) (l : Bool) → leb (length d) 255 ≡ l → description_ok (given b d) ≡ true → b ≡ true → length d ≤ 255
-description_is_short true d true e q t = leb-true _ _ e
-description_is_short true d false e q t = absurd (false≢true (rw e at q))
-description_is_short false d l e q t = absurd (false≢true t)
+description_is_short : (o : Option (List ℕ)) (d : List ℕ) (l : Bool) → leb (length d) 255 ≡ l → description_ok o ≡ true → o ≡ Some d → length d ≤ 255
+description_is_short o d true e q t = leb-true _ _ e
+description_is_short o d false e q t = absurd (false≢true (rw (t, e) at q))
 
-error_short_at : (k : List ℕ) (b : Bool) (d : List ℕ) (l a : Bool) → leb (length k) 255 ≡ l → ascii k ≡ a → error_ok (error_text k b d) ≡ true → Short k b d
+error_short_at : (t : ErrorText) (l a : Bool) → leb (length t.condition) 255 ≡ l → ascii t.condition ≡ a → error_ok t ≡ true → Short t
 unfolding error_ok
-error_short_at k b d true true e u q =
-    record { condition_short = leb-true _ _ e; description_short = description_is_short b d (leb (length d) 255) refl (rw (e, u) at q) }
-error_short_at k b d true false e u q = absurd (false≢true (rw (e, u) at q))
-error_short_at k b d false a e u q = absurd (false≢true (rw e at q))
+error_short_at t true true e u q =
+    record { condition_short = leb-true _ _ e; description_short = λ d. description_is_short t.description d (leb (length d) 255) refl (rw (e, u) at q) }
+error_short_at t true false e u q = absurd (false≢true (rw (e, u) at q))
+error_short_at t false a e u q = absurd (false≢true (rw e at q))
 
-pub error_short : (k : List ℕ) (b : Bool) (d : List ℕ) (r : Bool) → r ≡ error_ok (error_text k b d) → r ≡ true → Short k b d
-error_short k b d r e t = error_short_at k b d (leb (length k) 255) (ascii k) refl refl (sym e ∙ t)
+pub error_short : (t : ErrorText) (r : Bool) → r ≡ error_ok t → r ≡ true → Short t
+error_short t r e x = error_short_at t (leb (length t.condition) 255) (ascii t.condition) refl refl (sym e ∙ x)
 
 -- ---- the fields of an error
 
@@ -245,45 +235,51 @@ text_not_null_at Symbol bs false e = rw e
 text_not_null : (t : Text) (bs : List ℕ) → is_null (text (code_of t) bs) ≡ false
 text_not_null t bs = text_not_null_at t bs (leb (length bs) 255) refl
 
-texts_one : (k d : List ℕ) (b : Bool) → b ≡ false → trimmed (error_fields (error_text k b d)) ≡ text 0xa3 k ∷ []
+texts_one : (t : ErrorText) → t.description ≡ None → trimmed (error_fields t) ≡ text 0xa3 t.condition ∷ []
 unfolding error_fields description_field trimmed starts_with
-texts_one k d b t = rw t (rw (text_not_null Symbol k))
+texts_one t e = rw e (rw (text_not_null Symbol t.condition))
 
-texts_two : (k d : List ℕ) (b : Bool) → b ≡ true → trimmed (error_fields (error_text k b d)) ≡ text 0xa3 k ∷ text 0xa1 d ∷ []
+texts_two : (t : ErrorText) (d : List ℕ) → t.description ≡ Some d → trimmed (error_fields t) ≡ text 0xa3 t.condition ∷ text 0xa1 d ∷ []
 unfolding error_fields description_field trimmed
-texts_two k d b t = rw t (rw (text_not_null String d))
+texts_two t d e = rw e (rw (text_not_null String d))
 
-module _ (k : List ℕ) (b : Bool) (d : List ℕ) (short : Short k b d) (n : ℕ) (p : n ≡ length (text 0xa3 k)) (l : n ≤ 5 + length k) where
-  pub fields_two : (t : b ≡ true) (m : ℕ) → m ≡ length (text 0xa1 d) → m ≤ 5 + length d → ErrorSized (error_text k b d) 2 (n + m)
-  unfolding joined
-  fields_two t m q h =
-      let x : length k ≤ 255 = short.condition_short in
-      let y : length d ≤ 255 = short.description_short t in
-      record {
-        counts = rw (texts_two k d b t);
-        sizes = rw (texts_two k d b t) (omega (arith, length-append (text 0xa3 k) (text 0xa1 d ++ []), length-append (text 0xa1 d) []));
-        small = omega arith;
-      }
+module _ (k : List ℕ) (o : Option (Bor (List ℕ))) where
+  abbrev told : ErrorText
+  told = record { condition = k; description = option_copied o }
 
-  pub fields_one : b ≡ false → ErrorSized (error_text k b d) 1 n
-  unfolding joined
-  fields_one t =
-      let x : length k ≤ 255 = short.condition_short in
-      record { counts = rw (texts_one k d b t); sizes = rw (texts_one k d b t) (omega (arith, length-append (text 0xa3 k) [])); small = omega arith }
+  module _ (short : Short told) (n : ℕ) (p : n ≡ length (text 0xa3 k)) (l : n ≤ 5 + length k) where
+    pub fields_two : (d : Bor (List ℕ)) → o ≡ Some d → (m : ℕ) → m ≡ length (text 0xa1 d.now) → m ≤ 5 + length d.now → ErrorSized told 2 (n + m)
+    unfolding joined
+    fields_two d t m q h =
+        let s : told.description ≡ Some d.now = ap option_copied t in
+        let x : length k ≤ 255 = short.condition_short in
+        let y : length d.now ≤ 255 = short.description_short d.now s in
+        record {
+          counts = rw (texts_two told d.now s);
+          sizes = rw (texts_two told d.now s) (omega (arith, length-append (text 0xa3 k) (text 0xa1 d.now ++ []), length-append (text 0xa1 d.now) []));
+          small = omega arith;
+        }
 
--- ---- put_texts
+    pub fields_one : o ≡ None → ErrorSized told 1 n
+    unfolding joined
+    fields_one t =
+        let s : told.description ≡ None = ap option_copied t in
+        let x : length k ≤ 255 = short.condition_short in
+        record { counts = rw (texts_one told s); sizes = rw (texts_one told s) (omega (arith, length-append (text 0xa3 k) [])); small = omega arith }
 
-module _ (k : List ℕ) (b : Bool) (d out : List ℕ) (at : ℕ) (room : at + length (joined (trimmed (error_fields (error_text k b d)))) ≤ length out) (o₁ : List ℕ) (e : o₁ ≡ put out at (text 0xa3 k)) where
-  pub texts_laid_one : b ≡ false → o₁ ≡ put out at (joined (trimmed (error_fields (error_text k b d))))
-  unfolding joined
-  texts_laid_one t = rw (texts_one k d b t, append-nil (text 0xa3 k)) e
+  -- ---- put_texts
 
-  pub texts_laid_two : b ≡ true → (n : ℕ) → n ≡ length (text 0xa3 k) → (o₂ : List ℕ) → o₂ ≡ put o₁ (at + n) (text 0xa1 d) → o₂ ≡ put out at (joined (trimmed (error_fields (error_text k b d))))
-  unfolding joined
-  texts_laid_two t n p o₂ q =
-      let j : joined (trimmed (error_fields (error_text k b d))) ≡ text 0xa3 k ++ text 0xa1 d = rw (texts_two k d b t, append-nil (text 0xa1 d)) in
-      let r : at + length (text 0xa3 k ++ text 0xa1 d) ≤ length out = rw j at room in
-      rw j (put_more (text 0xa3 k) (text 0xa1 d) out o₁ o₂ at (at + n) (omega arith) (omega (arith, length-append (text 0xa3 k) (text 0xa1 d))) e q)
+  module _ (out : List ℕ) (at : ℕ) (room : at + length (joined (trimmed (error_fields told))) ≤ length out) (o₁ : List ℕ) (e : o₁ ≡ put out at (text 0xa3 k)) where
+    pub texts_laid_one : o ≡ None → o₁ ≡ put out at (joined (trimmed (error_fields told)))
+    unfolding joined
+    texts_laid_one t = rw (texts_one told (ap option_copied t), append-nil (text 0xa3 k)) e
+
+    pub texts_laid_two : (d : Bor (List ℕ)) → o ≡ Some d → (n : ℕ) → n ≡ length (text 0xa3 k) → (o₂ : List ℕ) → o₂ ≡ put o₁ (at + n) (text 0xa1 d.now) → o₂ ≡ put out at (joined (trimmed (error_fields told)))
+    unfolding joined
+    texts_laid_two d t n p o₂ q =
+        let j : joined (trimmed (error_fields told)) ≡ text 0xa3 k ++ text 0xa1 d.now = rw (texts_two told d.now (ap option_copied t), append-nil (text 0xa1 d.now)) in
+        let r : at + length (text 0xa3 k ++ text 0xa1 d.now) ≤ length out = rw j at room in
+        rw j (put_more (text 0xa3 k) (text 0xa1 d.now) out o₁ o₂ at (at + n) (omega arith) (omega (arith, length-append (text 0xa3 k) (text 0xa1 d.now))) e q)
 
 -- ---- put_error
 
@@ -294,7 +290,7 @@ texts_room e count size at out o₁ h z k l p =
     let m : length o₁ ≡ length out = ap length p ∙ length_put out at h in
     omega arith
 
-pub error_laid : (e : ErrorText) (count size at : ℕ) (out o₁ o₂ : List ℕ) → ErrorRoom e count size at (length out) → (k : ℕ) → k ≡ length (composite_header 29 count size) → o₁ ≡ put out at (composite_header 29 count size) → o₂ ≡ put o₁ (at + k) (joined (trimmed (error_fields e))) → o₂ ≡ put out at (error_field (some e))
+pub error_laid : (e : ErrorText) (count size at : ℕ) (out o₁ o₂ : List ℕ) → ErrorRoom e count size at (length out) → (k : ℕ) → k ≡ length (composite_header 29 count size) → o₁ ≡ put out at (composite_header 29 count size) → o₂ ≡ put o₁ (at + k) (joined (trimmed (error_fields e))) → o₂ ≡ put out at (error_field (Some e))
 unfolding error_field composite
 error_laid e count size at out o₁ o₂ z k l p q =
     let c : count ≡ length (trimmed (error_fields e)) = z.sized.counts in
@@ -305,28 +301,28 @@ error_laid e count size at out o₁ o₂ z k l p q =
 
 -- ---- the writers of Close
 
-error_not_null : (e : ErrorText) → is_null (error_field (some e)) ≡ false
+error_not_null : (e : ErrorText) → is_null (error_field (Some e)) ≡ false
 unfolding error_field composite composite_header starts_with
 error_not_null e = refl
 
-error_length : (e : ErrorText) (count size k : ℕ) → ErrorSized e count size → k ≡ length (composite_header 29 count size) + size → k ≡ length (error_field (some e))
+error_length : (e : ErrorText) (count size k : ℕ) → ErrorSized e count size → k ≡ length (composite_header 29 count size) + size → k ≡ length (error_field (Some e))
 unfolding error_field composite
 error_length e count size k z l =
     l ∙ rw (← z.counts, ← z.sizes, length-append) (rw (← z.sizes) refl)
 
 -- a Close has one field, the error
-pub close_sized : (e : ErrorText) (count size k : ℕ) → ErrorSized e count size → k ≡ length (composite_header 29 count size) + size → k ≤ 1000 → Sized (error_field (some e) ∷ []) 1 k
+pub close_sized : (e : ErrorText) (count size k : ℕ) → ErrorSized e count size → k ≡ length (composite_header 29 count size) + size → k ≤ 1000 → Sized (error_field (Some e) ∷ []) 1 k
 unfolding joined trimmed
 close_sized e count size k z l h =
     record {
       counts = rw (error_not_null e);
-      sizes = rw (error_not_null e) (error_length e count size k z l ∙ ap length (sym (append-nil (error_field (some e)))));
+      sizes = rw (error_not_null e) (error_length e count size k z l ∙ ap length (sym (append-nil (error_field (Some e)))));
       small = h;
     }
 
-close_joined : (e : ErrorText) → joined (trimmed (error_field (some e) ∷ [])) ≡ error_field (some e)
+close_joined : (e : ErrorText) → joined (trimmed (error_field (Some e) ∷ [])) ≡ error_field (Some e)
 unfolding joined trimmed
-close_joined e = rw (error_not_null e) (append-nil (error_field (some e)))
+close_joined e = rw (error_not_null e) (append-nil (error_field (Some e)))
 
 pub error_room : (e : ErrorText) (count size k at : ℕ) (d o h : List ℕ) → ErrorSized e count size → k ≡ length (composite_header 29 count size) + size → k ≤ 1000 → at ≡ 8 + length (composite_header 24 1 k) → 16384 ≤ length d → o ≡ put d 0 h → ErrorRoom e count size at (length o)
 error_room e count size k at d o h z l small a room p =
@@ -336,65 +332,65 @@ error_room e count size k at d o h z l small a room p =
 
 module _ (t : ErrorText) (limit : ℕ) (out : List ℕ) where
   abbrev close_rule : Verdict (List ℕ)
-  close_rule = write_close (some t) limit out
+  close_rule = write_close (Some t) limit out
 
-  pub close_9 : length out < 16384 → Wrote close_rule (Refused 9) out out
+  pub close_9 : length out < 16384 → Wrote close_rule (Err NoRoom) out out
   unfolding write_close
   close_9 h = wrote_9 _ limit _ out h
 
   module _ (room : 16384 ≤ length out) (b : Bool) (ok : b ≡ error_ok t) where
-    pub close_8 : b ≡ false → Wrote close_rule (Refused 8) out out
+    pub close_8 : b ≡ false → Wrote close_rule (Err OutOfBounds) out out
     unfolding write_close
     close_8 e = wrote_8 _ limit _ out room (sym ok ∙ e)
 
     module _ (fine : b ≡ true) (count size k n : ℕ) (z : ErrorSized t count size) (lk : k ≡ length (composite_header 29 count size) + size) (few : k ≤ 1000) (l : n ≡ 8 + length (composite_header 24 1 k) + k) where
-      pub close_27 : limit < n → Wrote close_rule (Refused 27) out out
+      pub close_27 : limit < n → Wrote close_rule (Err OverWritingLimit) out out
       unfolding write_close
       close_27 h =
-          let s : Sized (error_field (some t) ∷ []) 1 k = close_sized t count size k z lk few in
+          let s : Sized (error_field (Some t) ∷ []) 1 k = close_sized t count size k z lk few in
           wrote_27 _ limit _ out room (sym ok ∙ fine) n (framed_length 24 1 k _ s.counts s.sizes n l) h
 
       pub close_wrote : n ≤ limit → (at : ℕ) (o₁ o₂ : List ℕ) → at ≡ 8 + length (composite_header 24 1 k)
-          → o₁ ≡ put out 0 (frame_header n 0 ++ composite_header 24 1 k) → o₂ ≡ put o₁ at (error_field (some t)) → Wrote close_rule (Bytes n) out o₂
+          → o₁ ≡ put out 0 (frame_header n 0 ++ composite_header 24 1 k) → o₂ ≡ put o₁ at (error_field (Some t)) → Wrote close_rule (Ok n) out o₂
       unfolding write_close
       close_wrote h at o₁ o₂ a p q =
-          let s : Sized (error_field (some t) ∷ []) 1 k = close_sized t count size k z lk few in
+          let s : Sized (error_field (Some t) ∷ []) 1 k = close_sized t count size k z lk few in
           let tw : length (composite_header 24 1 k) ≤ 12 = header_few 24 1 k in
           wrote_frame _ limit _ out room (sym ok ∙ fine) n (framed_length 24 1 k _ s.counts s.sizes n l) h (omega arith) o₂
           (framed 24 1 k _ s.counts s.sizes n l out o₁ o₂ at a (omega arith) p (q ∙ ap (put o₁ at) (sym (close_joined t))))
 
 -- ---- a Close without an error, and an empty frame
 
-plain_bytes : frame_header 12 0 ++ composite_header 24 0 0 ≡ frame_bytes 0 (composite 24 (error_field none ∷ []))
+plain_bytes : frame_header 12 0 ++ composite_header 24 0 0 ≡ frame_bytes 0 (composite 24 (error_field None ∷ []))
 unfolding frame_bytes frame_header bytes_of composite composite_header list_header error_field trimmed joined starts_with
 plain_bytes = refl
 
 module _ (limit : ℕ) (out : List ℕ) where
-  pub plain_9 : length out < 16384 → Wrote (write_close none limit out) (Refused 9) out out
+  pub plain_9 : length out < 16384 → Wrote (write_close None limit out) (Err NoRoom) out out
   unfolding write_close
   plain_9 h = wrote_9 _ limit _ out h
 
-  pub empty_9 : length out < 16384 → Wrote (write_empty limit out) (Refused 9) out out
+  pub empty_9 : length out < 16384 → Wrote (write_empty limit out) (Err NoRoom) out out
   unfolding write_empty
   empty_9 h = wrote_9 _ limit _ out h
 
   module _ (room : 16384 ≤ length out) where
-    twelve : 12 ≡ length (frame_bytes 0 (composite 24 (error_field none ∷ [])))
+    twelve : 12 ≡ length (frame_bytes 0 (composite 24 (error_field None ∷ [])))
     unfolding frame_bytes frame_header bytes_of composite composite_header list_header error_field trimmed joined starts_with
     twelve = refl
 
-    pub plain_27 : limit < 12 → Wrote (write_close none limit out) (Refused 27) out out
+    pub plain_27 : limit < 12 → Wrote (write_close None limit out) (Err OverWritingLimit) out out
     unfolding write_close
     plain_27 h = wrote_27 _ limit _ out room refl 12 twelve h
 
-    pub plain_wrote : 12 ≤ limit → (o : List ℕ) → o ≡ put out 0 (frame_header 12 0 ++ composite_header 24 0 0) → Wrote (write_close none limit out) (Bytes 12) out o
+    pub plain_wrote : 12 ≤ limit → (o : List ℕ) → o ≡ put out 0 (frame_header 12 0 ++ composite_header 24 0 0) → Wrote (write_close None limit out) (Ok 12) out o
     unfolding write_close
     plain_wrote h o q = wrote_frame _ limit _ out room refl 12 twelve h (omega arith) o (q ∙ ap (put out 0) plain_bytes)
 
-    pub empty_27 : limit < 8 → Wrote (write_empty limit out) (Refused 27) out out
+    pub empty_27 : limit < 8 → Wrote (write_empty limit out) (Err OverWritingLimit) out out
     unfolding write_empty frame_bytes frame_header bytes_of
     empty_27 h = wrote_27 _ limit _ out room refl 8 refl h
 
-    pub empty_wrote : 8 ≤ limit → (o : List ℕ) → o ≡ put out 0 (frame_header 8 0) → Wrote (write_empty limit out) (Bytes 8) out o
+    pub empty_wrote : 8 ≤ limit → (o : List ℕ) → o ≡ put out 0 (frame_header 8 0) → Wrote (write_empty limit out) (Ok 8) out o
     unfolding write_empty frame_bytes frame_header bytes_of
     empty_wrote h o q = wrote_frame _ limit _ out room refl 8 refl h (omega arith) o q

@@ -1,7 +1,6 @@
 -- Frames written: Part 2 section 2.3 and document 01. Each rule answers with the bytes to be written; refusals in the order of document 01.
 -- Assumes nothing: these are definitions.
-use Rattle.std.specs.Prelude.{ℕ, ◌+◌, Bool, true, ◌&&◌, List, [], ◌∷◌, ◌++◌, length, leb}
-use Rattle.std.proofs.Math.Option.{Option, none, some}
+use Rattle.std.specs.Prelude.{ℕ, ◌+◌, Bool, true, ◌&&◌, List, [], ◌∷◌, ◌++◌, length, leb, Option, None, Some}
 use Rattle.octets.specs.Verdict.{Verdict, accept, require}
 use Rattle.octets.specs.Octets.{bytes_of}
 use Rattle.octets.specs.Output.{room_for}
@@ -43,13 +42,13 @@ settings_ok container_id max_frame_size channel_max =
     && (leb 512 max_frame_size && (leb max_frame_size 16384 && leb channel_max 65535)))
 
 unfoldable pub idle_field : Option ℕ → List ℕ
-idle_field none = null
-idle_field (some n) = uint n
+idle_field None = null
+idle_field (Some n) = uint n
 
 -- what is left of it when it is the last field
 unfoldable pub idle_kept : Option ℕ → List ℕ
-idle_kept none = []
-idle_kept (some n) = uint n
+idle_kept None = []
+idle_kept (Some n) = uint n
 
 -- container-id, hostname, max-frame-size, channel-max, idle-time-out
 unfoldable pub open_fields : Settings → List (List ℕ)
@@ -69,27 +68,27 @@ pub record ErrorText : Type 0 where
   pub description : Option (List ℕ)
 
 abbrev pub description_ok : Option (List ℕ) → Bool
-description_ok none = true
-description_ok (some d) = leb (length d) 255 && utf8 d
+description_ok None = true
+description_ok (Some d) = leb (length d) 255 && utf8 d
 
 unfoldable pub error_ok : ErrorText → Bool
 error_ok e = leb (length e.condition) 255 && (ascii e.condition && description_ok e.description)
 
 unfoldable pub description_field : Option (List ℕ) → List ℕ
-description_field none = null
-description_field (some d) = text 0xa1 d
+description_field None = null
+description_field (Some d) = text 0xa1 d
 
 -- condition, description
 unfoldable pub error_fields : ErrorText → List (List ℕ)
 error_fields e = text 0xa3 e.condition ∷ description_field e.description ∷ []
 
 unfoldable pub error_field : Option ErrorText → List ℕ
-error_field none = null
-error_field (some e) = composite 29 (error_fields e)
+error_field None = null
+error_field (Some e) = composite 29 (error_fields e)
 
 abbrev pub close_ok : Option ErrorText → Bool
-close_ok none = true
-close_ok (some e) = error_ok e
+close_ok None = true
+close_ok (Some e) = error_ok e
 
 abbrev pub close_body : Option ErrorText → List ℕ
 close_body e = composite 24 (error_field e ∷ [])

@@ -2,12 +2,11 @@
 // A frame's length is known, and every refusal found, before its first byte is written.
 #![tactic(auto)]
 
-ghost use Rattle.std.specs.Prelude.{◌≡◌, ◌+◌, ◌≤◌, ◌<◌, [], ◌∷◌, ◌++◌, length};
-ghost use Rattle.std.proofs.Math.Option.{Option, none, some};
+ghost use Rattle.std.specs.Prelude.{◌≡◌, ◌+◌, ◌≤◌, ◌<◌, [], ◌∷◌, ◌++◌, length, option_copied};
 ghost use Rattle.octets.specs.Octets.{put};
 ghost use Rattle.octets.specs.Output.{Wrote};
 ghost use Rattle.serializer.specs.Written.{joined, trimmed, composite_header, composite};
-ghost use Rattle.frame_encoder.specs.Answers.{idle_said, settings, given, error_text, Sized, ErrorSized, Short, ErrorRoom};
+ghost use Rattle.frame_encoder.specs.Answers.{settings_say, error_text, Sized, ErrorSized, Short, ErrorRoom};
 ghost use Rattle.frame_encoder.specs.Frames.{
   frame_header,
   settings_ok,
@@ -22,13 +21,23 @@ ghost use Rattle.frame_encoder.specs.Frames.{
   write_empty,
 };
 
-use octets::Written;
+use octets::Refusal;
 use serializer::Text;
 
+// What one end says in its Open. Without an idle-time-out in milliseconds it never times out.
 #[derive(Clone, Copy)]
-pub enum IdleTimeOut {
-    Never,
-    Millis(u32),
+pub struct Settings<'a> {
+    pub container_id: &'a [u8],
+    pub max_frame_size: u32,
+    pub channel_max: u16,
+    pub idle_time_out: Option<u32>,
+}
+
+// What a Close tells of an error.
+#[derive(Clone, Copy)]
+pub struct ErrorText<'a> {
+    pub condition: &'a [u8],
+    pub description: Option<&'a [u8]>,
 }
 
 pub const MIN_MAX_FRAME_SIZE: u32 = 512;
@@ -55,75 +64,63 @@ pub fn put_frame_header(out: &mut [u8], size: u32, channel: u16)
 }
 
 // Whether a container-id, a max-frame-size and a channel-max are within their limits: else the settings are refused with 8. Every u16 is a channel-max.
-pub fn settings_ok(container_id: &[u8], max_frame_size: u32, channel_max: u16) -> bool
-    ensures { result ≡ settings_ok container_id.now max_frame_size channel_max }
+pub fn settings_ok(settings: &Settings<'_>) -> bool
+    ensures { result ≡ settings_ok settings.now.container_id.now settings.now.max_frame_size settings.now.channel_max }
 {
-    if 255 < container_id.len() {
+    if 255 < settings.container_id.len() {
         return false;
     }
-    if !text::is_utf8(container_id) {
+    if !text::is_utf8(settings.container_id) {
         return false;
     }
-    if max_frame_size < MIN_MAX_FRAME_SIZE {
+    if settings.max_frame_size < MIN_MAX_FRAME_SIZE {
         return false;
     }
-    if MAX_FRAME_SIZE < max_frame_size {
+    if MAX_FRAME_SIZE < settings.max_frame_size {
         return false;
     }
     true
 }
 
 // The fields of an Open: those that are left, without the null in the place of the idle-time-out.
-fn open_fields(
-    container_id: &[u8],
-    max_frame_size: u32,
-    channel_max: u16,
-    idle: IdleTimeOut,
-) -> Fields
-    requires { length container_id.now ≤ 255 }
-    ensures { Sized (open_fields (settings container_id.now max_frame_size channel_max idle)) result.count result.size }
+fn open_fields(settings: &Settings<'_>) -> Fields
+    requires { length settings.now.container_id.now ≤ 255 }
+    ensures { Sized (open_fields (settings_say settings.now)) result.count result.size }
 {
-    let before = serializer::text_len(container_id, Text::String) + 1;
-    let fixed = before + serializer::uint_len(max_frame_size) + 3;
-    match idle {
-        IdleTimeOut::Never => Fields {
+    let before = serializer::text_len(settings.container_id, Text::String) + 1;
+    let fixed = before + serializer::uint_len(settings.max_frame_size) + 3;
+    match settings.idle_time_out {
+        None => Fields {
             count: 4,
             size: fixed as u32,
         },
-        IdleTimeOut::Millis(n) => Fields {
+        Some(n) => Fields {
             count: 5,
             size: (fixed + serializer::uint_len(n)) as u32,
         },
     }
 }
 
-fn put_idle(out: &mut [u8], at: usize, idle: IdleTimeOut)
-    ensures { out.new ≡ put out.old at (idle_kept (idle_said idle)) }
+fn put_idle(out: &mut [u8], at: usize, idle: Option<u32>)
+    ensures { out.new ≡ put out.old at (idle_kept idle) }
 {
     match idle {
-        IdleTimeOut::Never => octets::put_number(out, at, 0, 0),
-        IdleTimeOut::Millis(n) => serializer::put_uint(out, at, n),
+        None => octets::put_number(out, at, 0, 0),
+        Some(n) => serializer::put_uint(out, at, n),
     }
 }
 
-fn put_open_fields(
-    out: &mut [u8],
-    at: usize,
-    container_id: &[u8],
-    max_frame_size: u32,
-    channel_max: u16,
-    idle: IdleTimeOut,
-)
-    requires { (length container_id.now ≤ 255) × (at + length (joined (trimmed (open_fields (settings container_id.now max_frame_size channel_max idle)))) ≤ length out.old) }
-    ensures { out.new ≡ put out.old at (joined (trimmed (open_fields (settings container_id.now max_frame_size channel_max idle)))) }
+fn put_open_fields(out: &mut [u8], at: usize, settings: &Settings<'_>)
+    requires { (length settings.now.container_id.now ≤ 255) × (at + length (joined (trimmed (open_fields (settings_say settings.now)))) ≤ length out.old) }
+    ensures { out.new ≡ put out.old at (joined (trimmed (open_fields (settings_say settings.now)))) }
 {
-    let n = serializer::text_len(container_id, Text::String);
-    let m = serializer::uint_len(max_frame_size);
-    serializer::put_text(out, at, Text::String, container_id);
+    let n = serializer::text_len(settings.container_id, Text::String);
+    let m = serializer::uint_len(settings.max_frame_size);
+    serializer::put_text(out, at, Text::String, settings.container_id);
     octets::put_number(out, at + n, 1, 0x40);
-    serializer::put_uint(out, at + n + 1, max_frame_size);
-    serializer::put_ushort(out, at + n + 1 + m, channel_max);
-    put_idle(out, at + n + 1 + m + 3, idle);
+    serializer::put_uint(out, at + n + 1, settings.max_frame_size);
+    serializer::put_ushort(out, at + n + 1 + m, settings.channel_max);
+    put_idle(out, at + n + 1 + m + 3, settings.idle_time_out);
 }
 
 // The number of bytes of a frame with these fields.
@@ -131,7 +128,7 @@ fn frame_len(code: u8, count: u8, size: u32) -> usize
     requires { size ≤ 1000 }
     ensures { result ≡ 8 + length (composite_header code count size) + size }
 {
-    8 + serializer::composite_header_len(count, size, code) + size as usize
+    8 + serializer::composite_header_len(count as usize, size as usize, code) + size as usize
 }
 
 // What stands before the fields of a frame that is n bytes long; where the fields begin.
@@ -141,86 +138,81 @@ fn put_start(out: &mut [u8], n: u32, code: u8, count: u8, size: u32) -> usize
 {
     put_frame_header(out, n, 0);
     serializer::put_composite_header(out, 8, code, count, size);
-    8 + serializer::composite_header_len(count, size, code)
+    8 + serializer::composite_header_len(count as usize, size as usize, code)
 }
 
-// Writes an Open frame. The refusals are 9, 8 and 27.
-pub fn write_open(
-    container_id: &[u8],
-    max_frame_size: u32,
-    channel_max: u16,
-    idle: IdleTimeOut,
-    limit: u32,
-    out: &mut [u8],
-) -> Written
-    ensures { Wrote (write_open (settings container_id.now max_frame_size channel_max idle) limit out.old) result out.old out.new }
+// Writes an Open frame. The refusals are `NoRoom`, `OutOfBounds` and `OverWritingLimit`.
+pub fn write_open(settings: &Settings<'_>, limit: u32, out: &mut [u8]) -> Result<usize, Refusal>
+    ensures { Wrote (write_open (settings_say settings.now) limit out.old) result out.old out.new }
 {
     if out.len() < 16384 {
-        return Written::Refused(9);
+        return Err(Refusal::NoRoom);
     }
-    if !settings_ok(container_id, max_frame_size, channel_max) {
-        return Written::Refused(8);
+    if !settings_ok(settings) {
+        return Err(Refusal::OutOfBounds);
     }
-    let fields = open_fields(container_id, max_frame_size, channel_max, idle);
+    let fields = open_fields(settings);
     let n = frame_len(16, fields.count, fields.size);
     if (limit as usize) < n {
-        return Written::Refused(27);
+        return Err(Refusal::OverWritingLimit);
     }
     let at = put_start(out, n as u32, 16, fields.count, fields.size);
-    put_open_fields(out, at, container_id, max_frame_size, channel_max, idle);
-    Written::Bytes(n)
+    put_open_fields(out, at, settings);
+    Ok(n)
 }
 
-fn description_ok(described: bool, description: &[u8]) -> bool
-    ensures { result ≡ description_ok (given described description.now) }
+fn description_ok(description: Option<&[u8]>) -> bool
+    ensures { result ≡ description_ok (option_copied description.entry) }
 {
-    if described {
-        if 255 < description.len() {
-            return false;
+    match description {
+        None => true,
+        Some(text) => {
+            if 255 < text.len() {
+                return false;
+            }
+            text::is_utf8(text)
         }
-        return text::is_utf8(description);
     }
-    true
 }
 
-// Whether the texts of an error are within their limits: else it is refused with 8. An error that is not `described` has no description.
-pub fn error_ok(condition: &[u8], described: bool, description: &[u8]) -> bool
-    ensures { result ≡ error_ok (error_text condition.now described description.now) }
+// Whether the texts of an error are within their limits: else it is refused with 8.
+pub fn error_ok(error: &ErrorText<'_>) -> bool
+    ensures { result ≡ error_ok (error_text error.now) }
 {
-    if 255 < condition.len() {
+    if 255 < error.condition.len() {
         return false;
     }
-    if !text::is_ascii(condition) {
+    if !text::is_ascii(error.condition) {
         return false;
     }
-    description_ok(described, description)
+    description_ok(error.description)
 }
 
-fn error_fields(condition: &[u8], described: bool, description: &[u8]) -> Fields
-    requires { Short condition.now described description.now }
-    ensures { ErrorSized (error_text condition.now described description.now) result.count result.size }
+fn error_fields(error: &ErrorText<'_>) -> Fields
+    requires { Short (error_text error.now) }
+    ensures { ErrorSized (error_text error.now) result.count result.size }
 {
-    let n = serializer::text_len(condition, Text::Symbol);
-    if described {
-        return Fields {
+    let n = serializer::text_len(error.condition, Text::Symbol);
+    match error.description {
+        None => Fields {
+            count: 1,
+            size: n as u32,
+        },
+        Some(description) => Fields {
             count: 2,
             size: (n + serializer::text_len(description, Text::String)) as u32,
-        };
-    }
-    Fields {
-        count: 1,
-        size: n as u32,
+        },
     }
 }
 
 // The condition, and the description if there is one.
-fn put_texts(out: &mut [u8], at: usize, condition: &[u8], described: bool, description: &[u8])
-    requires { (Short condition.now described description.now) × (at + length (joined (trimmed (error_fields (error_text condition.now described description.now)))) ≤ length out.old) }
-    ensures { out.new ≡ put out.old at (joined (trimmed (error_fields (error_text condition.now described description.now)))) }
+fn put_texts(out: &mut [u8], at: usize, error: &ErrorText<'_>)
+    requires { (Short (error_text error.now)) × (at + length (joined (trimmed (error_fields (error_text error.now)))) ≤ length out.old) }
+    ensures { out.new ≡ put out.old at (joined (trimmed (error_fields (error_text error.now)))) }
 {
-    let n = serializer::text_len(condition, Text::Symbol);
-    serializer::put_text(out, at, Text::Symbol, condition);
-    if described {
+    let n = serializer::text_len(error.condition, Text::Symbol);
+    serializer::put_text(out, at, Text::Symbol, error.condition);
+    if let Some(description) = error.description {
         serializer::put_text(out, at + n, Text::String, description);
     }
 }
@@ -230,78 +222,69 @@ fn error_len(count: u8, size: u32) -> u32
     requires { size ≤ 600 }
     ensures { (result ≡ length (composite_header 29 count size) + size) × (result ≤ 1000) }
 {
-    serializer::composite_header_len(count, size, 29) as u32 + size
+    serializer::composite_header_len(count as usize, size as usize, 29) as u32 + size
 }
 
-fn put_error(
-    out: &mut [u8],
-    at: usize,
-    fields: Fields,
-    condition: &[u8],
-    described: bool,
-    description: &[u8],
-)
-    requires { (Short condition.now described description.now) × ErrorRoom (error_text condition.now described description.now) fields.count fields.size at (length out.old) }
-    ensures { out.new ≡ put out.old at (error_field (some (error_text condition.now described description.now))) }
+fn put_error(out: &mut [u8], at: usize, fields: Fields, error: &ErrorText<'_>)
+    requires { (Short (error_text error.now)) × ErrorRoom (error_text error.now) fields.count fields.size at (length out.old) }
+    ensures { out.new ≡ put out.old at (error_field (Some (error_text error.now))) }
 {
     let count = fields.count;
     let size = fields.size;
-    let h = serializer::composite_header_len(count, size, 29);
+    let h = serializer::composite_header_len(count as usize, size as usize, 29);
     serializer::put_composite_header(out, at, 29, count, size);
-    put_texts(out, at + h, condition, described, description);
+    put_texts(out, at + h, error);
 }
 
-// Writes a Close frame with an error. The refusals are 9, 8 and 27.
+// Writes a Close frame with an error. The refusals are `NoRoom`, `OutOfBounds` and `OverWritingLimit`.
 pub fn write_close_with_error(
-    condition: &[u8],
-    described: bool,
-    description: &[u8],
+    error: &ErrorText<'_>,
     limit: u32,
     out: &mut [u8],
-) -> Written
-    ensures { Wrote (write_close (some (error_text condition.now described description.now)) limit out.old) result out.old out.new }
+) -> Result<usize, Refusal>
+    ensures { Wrote (write_close (Some (error_text error.now)) limit out.old) result out.old out.new }
 {
     if out.len() < 16384 {
-        return Written::Refused(9);
+        return Err(Refusal::NoRoom);
     }
-    if !error_ok(condition, described, description) {
-        return Written::Refused(8);
+    if !error_ok(error) {
+        return Err(Refusal::OutOfBounds);
     }
-    let fields = error_fields(condition, described, description);
+    let fields = error_fields(error);
     let size = error_len(fields.count, fields.size);
     let n = frame_len(24, 1, size);
     if (limit as usize) < n {
-        return Written::Refused(27);
+        return Err(Refusal::OverWritingLimit);
     }
     let at = put_start(out, n as u32, 24, 1, size);
-    put_error(out, at, fields, condition, described, description);
-    Written::Bytes(n)
+    put_error(out, at, fields, error);
+    Ok(n)
 }
 
-// Writes a Close frame without an error. The refusals are 9 and 27.
-pub fn write_close(limit: u32, out: &mut [u8]) -> Written
-    ensures { Wrote (write_close none limit out.old) result out.old out.new }
+// Writes a Close frame without an error. The refusals are `NoRoom` and `OverWritingLimit`.
+pub fn write_close(limit: u32, out: &mut [u8]) -> Result<usize, Refusal>
+    ensures { Wrote (write_close None limit out.old) result out.old out.new }
 {
     if out.len() < 16384 {
-        return Written::Refused(9);
+        return Err(Refusal::NoRoom);
     }
     if limit < 12 {
-        return Written::Refused(27);
+        return Err(Refusal::OverWritingLimit);
     }
     put_start(out, 12, 24, 0, 0);
-    Written::Bytes(12)
+    Ok(12)
 }
 
-// Writes an empty frame. The refusals are 9 and 27.
-pub fn write_empty(limit: u32, out: &mut [u8]) -> Written
+// Writes an empty frame. The refusals are `NoRoom` and `OverWritingLimit`.
+pub fn write_empty(limit: u32, out: &mut [u8]) -> Result<usize, Refusal>
     ensures { Wrote (write_empty limit out.old) result out.old out.new }
 {
     if out.len() < 16384 {
-        return Written::Refused(9);
+        return Err(Refusal::NoRoom);
     }
     if limit < 8 {
-        return Written::Refused(27);
+        return Err(Refusal::OverWritingLimit);
     }
     put_frame_header(out, 8, 0);
-    Written::Bytes(8)
+    Ok(8)
 }

@@ -7,7 +7,10 @@ use native.Mathlib.Omega.{arith}
 use borrow.Author.Tests.{le-leb, lt-leb}
 use lib.ListN.{length, take, drop, length-append}
 use lib.Seq.{length-take-le}
+use Rattle.std.specs.Prelude.{Result, Ok, Err}
 use Rattle.octets.specs.Verdict.{accept}
+use Rattle.octets.specs.Refusal.{number_of}
+use Rattle.octets.specs.declared.Refusal.{Refusal}
 use Rattle.octets.specs.Octets.{big_endian, bytes_of, put}
 use Rattle.octets.proofs.Laws.{length_bytes_of, put_not}
 use Rattle.layout.proofs.Parts.{first, more}
@@ -15,7 +18,7 @@ use Rattle.values.proofs.Apart.{then_was}
 use Rattle.performatives.specs.declared.Performative.{Performative}
 use Rattle.performatives.specs.Answers.{performative_says}
 use Rattle.frame_decoder.specs.declared.Frame.{Frame}
-use Rattle.frame_decoder.specs.declared.Frame.TheVariants.{Refused, Empty, Body}
+use Rattle.frame_decoder.specs.declared.Frame.TheVariants.{Empty, Body}
 use Rattle.frame_decoder.specs.Frame.{size_of, channel_of, frame, body_in, FrameSaid, holding, content, read_frame}
 use Rattle.frame_decoder.specs.Answers.{frame_says, frame_answer}
 use Rattle.frame_decoder.proofs.Laws.{frame_was}
@@ -80,34 +83,35 @@ told_is : (limit highest : ℕ) (s a : List ℕ) → 27 ≤ length a → told li
 unfolding told
 told_is limit highest s a h = rw (le-leb 27 (length a) h)
 
-module _ (limit highest : ℕ) (s a : List ℕ) (room : 27 ≤ length a) (r : Frame) (read : frame_says r ≡ frame_answer limit highest s) where
-  told_by : (x : Frame) → r ≡ x → tells (frame_says x) a ≡ told limit highest s a
+module _ (limit highest : ℕ) (s a : List ℕ) (room : 27 ≤ length a) (r : Result Frame Refusal) (read : frame_says r ≡ frame_answer limit highest s) where
+  told_by : (x : Result Frame Refusal) → r ≡ x → tells (frame_says x) a ≡ told limit highest s a
   told_by x e = sym (told_is limit highest s a room ∙ ap (λ v. tells v a) (sym read) ∙ ap (λ x. tells (frame_says x) a) e)
 
-  pub told_refused : (k : ℕ) → r ≡ Refused k → record { returned = k; answer = a } ≡ told limit highest s a
-  told_refused k e = told_by (Refused k) e
+  pub told_refused : (e : Refusal) → r ≡ Err e → (k : ℕ) → k ≡ number_of e → record { returned = k; answer = a } ≡ told limit highest s a
+  told_refused e q k n = rw n (told_by (Err e) q)
 
-  accepted : (x : Frame) → r ≡ x → frame_answer limit highest s ≡ frame_says x
+  accepted : (x : Result Frame Refusal) → r ≡ x → frame_answer limit highest s ≡ frame_says x
   accepted x e = sym read ∙ ap frame_says e
 
-  module _ (channel size from : ℕ) (e : r ≡ Empty channel size from) where
-    empty_stands : Stands s channel size
-    empty_stands = stands limit highest s _ (accepted _ e)
+  module _ (f : Frame) (g : r ≡ Ok f) where
+    module _ (channel size from : ℕ) (e : f ≡ Empty channel size from) where
+      empty_stands : Stands s channel size
+      empty_stands = stands limit highest s _ (accepted _ (g ∙ ap Ok e))
 
-    pub empty_long : 8 ≤ length s
-    empty_long = empty_stands.long
+      pub empty_long : 8 ≤ length s
+      empty_long = empty_stands.long
 
-    pub told_empty : (o : List ℕ) → o ≡ put a 0 (frame_bytes 0 (channel_of s) from 0 (size_of s)) → record { returned = 0; answer = o } ≡ told limit highest s a
-    told_empty o p = rw (p, ← empty_stands.channel_is, ← empty_stands.size_is) (told_by (Empty channel size from) e)
+      pub told_empty : (o : List ℕ) → o ≡ put a 0 (frame_bytes 0 (channel_of s) from 0 (size_of s)) → record { returned = 0; answer = o } ≡ told limit highest s a
+      told_empty o p = rw (p, ← empty_stands.channel_is, ← empty_stands.size_is) (told_by (Ok (Empty channel size from)) (g ∙ ap Ok e))
 
-  module _ (channel size from end : ℕ) (performative : Performative) (e : r ≡ Body channel size from performative end) where
-    body_stands : Stands s channel size
-    body_stands = stands limit highest s _ (accepted _ e)
+    module _ (channel size from end : ℕ) (performative : Performative) (e : f ≡ Body channel size from performative end) where
+      body_stands : Stands s channel size
+      body_stands = stands limit highest s _ (accepted _ (g ∙ ap Ok e))
 
-    pub body_long : 8 ≤ length s
-    body_long = body_stands.long
+      pub body_long : 8 ≤ length s
+      body_long = body_stands.long
 
-    pub told_body :
-        (code : ℕ) (o : List ℕ) → code ≡ (performative_says performative).0 → o ≡ put a 0 (frame_bytes code (channel_of s) from end (size_of s))
-        → record { returned = 0; answer = o } ≡ told limit highest s a
-    told_body code o q p = rw (p, q, ← body_stands.channel_is, ← body_stands.size_is) (told_by (Body channel size from performative end) e)
+      pub told_body :
+          (code : ℕ) (o : List ℕ) → code ≡ (performative_says performative).0 → o ≡ put a 0 (frame_bytes code (channel_of s) from end (size_of s))
+          → record { returned = 0; answer = o } ≡ told limit highest s a
+      told_body code o q p = rw (p, q, ← body_stands.channel_is, ← body_stands.size_is) (told_by (Ok (Body channel size from performative end)) (g ∙ ap Ok e))

@@ -1,7 +1,6 @@
 -- What a C caller is told of a frame: the number that is returned, 0 or a refusal, and the lent answer afterwards.
 -- Assumes nothing: these are definitions.
-use Rattle.std.specs.Prelude.{ℕ, cond, List, ◌++◌, leb, length}
-use Rattle.std.proofs.Math.Option.{Option, none, some}
+use Rattle.std.specs.Prelude.{ℕ, cond, List, ◌++◌, leb, length, Option, None, Some}
 use Rattle.octets.specs.Octets.{bytes_of, put}
 use Rattle.octets.specs.Verdict.{Verdict, refuse, accept}
 use Rattle.performatives.specs.Performative.{Said}
@@ -17,12 +16,12 @@ frame_bytes code channel from end size = bytes_of 1 code ++ (bytes_of 2 channel 
 
 -- an empty frame has no performative: its code is 0, and so is its end
 abbrev pub code_of : Option Said → ℕ
-code_of none = 0
-code_of (some p) = p.code
+code_of None = 0
+code_of (Some p) = p.code
 
 abbrev pub end_of : Option Said → ℕ
-end_of none = 0
-end_of (some p) = p.end
+end_of None = 0
+end_of (Some p) = p.end
 
 pub record Told : Type 0 where
   pub returned : ℕ

@@ -8,14 +8,11 @@ ghost use Rattle.frame_decoder.specs.Frame.{size_of, channel_of};
 ghost use Rattle.frame_reader.specs.Reading.{frame_bytes, told};
 
 use frame_decoder::Frame;
-use octets::{number, put_number};
+use octets::{Refusal, number, put_number};
 use performatives::Performative;
 
 // How many bytes are told of a frame.
 pub const ANSWER_SIZE: usize = 27;
-
-// The refusal of too little room.
-const NO_ROOM: u8 = 9;
 
 // The number of a performative's descriptor.
 fn code_of(performative: Performative) -> u8
@@ -65,28 +62,25 @@ pub extern "C" fn hisproat_read_frame(
     ensures { record { returned = result; answer = answer.new } ≡ told reading_limit channel_max frame.now answer.old }
 {
     if answer.len() < ANSWER_SIZE {
-        return NO_ROOM;
+        return Refusal::NoRoom.number();
     }
-    let read = frame_decoder::read(frame, reading_limit, channel_max);
+    let read = match frame_decoder::read(frame, reading_limit, channel_max) {
+        Ok(read) => read,
+        Err(refusal) => return refusal.number(),
+    };
     match read {
-        Frame::Refused(k) => k,
         Frame::Empty {
             channel: _,
             size: _,
             from,
-        } => {
-            put_frame(0, from, 0, frame, answer);
-            0
-        }
+        } => put_frame(0, from, 0, frame, answer),
         Frame::Body {
             channel: _,
             size: _,
             from,
             performative,
             end,
-        } => {
-            put_frame(code_of(performative), from, end, frame, answer);
-            0
-        }
+        } => put_frame(code_of(performative), from, end, frame, answer),
     }
+    0
 }

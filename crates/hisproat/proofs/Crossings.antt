@@ -3,7 +3,7 @@
 use mathlib.Core.Path.{◌≡◌, refl, sym, ◌∙◌, ap, ap₂, subst}
 use mathlib.Core.Bool.{Bool, true, false, not, ◌&&◌}
 use mathlib.Core.List.{List, [], ◌++◌, append-nil}
-use mathlib.Core.Option.{Option, some}
+use Rattle.std.specs.Prelude.{Option, None, Some}
 use Prim.Native.Nat.{ℕ, suc, ◌-◌, ◌*◌, ◌≤◌, ◌<◌}
 use native.Mathlib.Omega.{arith}
 use lib.Dec.{T, leb}
@@ -14,7 +14,7 @@ use Rattle.octets.specs.Octets.{put}
 use Rattle.octets.specs.Verdict.{Verdict, refuse, accept}
 use Rattle.octets.proofs.Laws.{length_put}
 use Rattle.frame_encoder.specs.Frames.{Settings}
-use Rattle.frame_encoder.specs.Answers.{error_text}
+use Rattle.frame_encoder.specs.Frames.{ErrorText}
 use Rattle.connection_model.specs.Connection.{Role, Answer}
 use Rattle.connection_model.proofs.Rules.{true_is}
 use Rattle.connection.specs.View as C
@@ -27,8 +27,6 @@ use Rattle.engine.specs.declared.ConnectionEngine.{ConnectionEngine}
 use Rattle.engine.specs.Answers.{Whole, whole, connection_in, role_of, settings_of, view_of, Sound}
 use Rattle.engine.specs.Promises.{Does, DoesIn}
 use Rattle.engine.proofs.Output.{rest_is}
-use Rattle.engine.specs.declared.ResumedEngine.{ResumedEngine}
-use Rattle.engine.specs.declared.ResumedEngine.TheVariants.{Is, Broken}
 use Rattle.engine_bytes.specs.Bytes.{Fixed, at, id_at, tables_at, fixed_size, fixed_at, state_size, moving_bytes, StandFor}
 use Rattle.engine_bytes.specs.Promises.{fixed_in, read_says}
 use Rattle.engine_bytes.proofs.Fixed.{id_low}
@@ -58,7 +56,7 @@ module _ (event : Event) (a : List ℕ) (all : has_room event ≡ true) where
 
 -- ---- a state that was read
 
-module _ (s : List ℕ) (read : ResumedEngine) (reads : read_says (id_at s) read ≡ fixed_at s) (e : ConnectionEngine) (known : read ≡ Is e) where
+module _ (s : List ℕ) (read : Option ConnectionEngine) (reads : read_says (id_at s) read ≡ fixed_at s) (e : ConnectionEngine) (known : read ≡ Some e) where
   pub read_is : fixed_at s ≡ accept (fixed_in e (id_at s))
   read_is = sym reads ∙ ap (read_says (id_at s)) known
 
@@ -102,7 +100,7 @@ module _ (event : Event) (s a : List ℕ) (lacks : Bool) (is : lacks ≡ not (fi
   room = not-false (fits_in event a) (sym is ∙ not_so)
 
   -- it stands for no engine
-  pub crosses_broken : (read : ResumedEngine) → read_says (id_at s) read ≡ fixed_at s → read ≡ Broken → Crosses event s a (crossing 8 s a (lent event))
+  pub crosses_broken : (read : Option ConnectionEngine) → read_says (id_at s) read ≡ fixed_at s → read ≡ None → Crosses event s a (crossing 8 s a (lent event))
   crosses_broken read reads b =
       let broken : fixed_at s ≡ refuse 8 = sym reads ∙ ap (read_says (id_at s)) b in
       unchanged event s a 8 (λ t. clash (sym room ∙ t)) (λ t n. refl) (λ t role S e z. let q : ◌≡◌ {A = ℕ} 0 1 = never z.reads broken in absurd (omega arith))
@@ -206,7 +204,7 @@ module _ (event : Event) (s a : List ℕ) (lacks : Bool) (is : lacks ≡ not (fi
         (f.finishes_state v ∙ ap (λ r. state_after r given later) m.amounts_reply)
 
   -- with the facts as they come
-  module _ (read : ResumedEngine) (reads : read_says (id_at s) read ≡ fixed_at s) (e : ConnectionEngine) (known : read ≡ Is e) where
+  module _ (read : Option ConnectionEngine) (reads : read_says (id_at s) read ≡ fixed_at s) (e : ConnectionEngine) (known : read ≡ Some e) where
     -- an event that is not lent the tables
     pub crosses_without :
         (reply : Verdict Reply) (out : List ℕ) (later : ConnectionEngine) → Does event (whole e (tables_at s) (id_at s)) reply out (whole later (tables_at s) (id_at s))
@@ -232,12 +230,11 @@ module _ (event : Event) (s a : List ℕ) (lacks : Bool) (is : lacks ≡ not (fi
 
 -- ---- a flag that is handed over as a number
 
-module _ (b f : Bool) (same : b ≡ f) where
-  pub does_close :
-      (condition description w o : List ℕ) (before later : List ℕ → Whole) (reply : Verdict Reply) (out : List ℕ)
-      → ((id : List ℕ) → DoesIn (close_order (some (error_text condition b description)) w o) (before id) reply out (later id))
-      → (id : List ℕ) → DoesIn (close_order (some (error_text condition f description)) w o) (before id) reply out (later id)
-  does_close condition description w o before later reply out d = subst (λ x. (id : List ℕ) → DoesIn (close_order (some (error_text condition x description)) w o) (before id) reply out (later id)) same d
+pub does_close :
+    (e f : ErrorText) → e ≡ f → (w o : List ℕ) (before later : List ℕ → Whole) (reply : Verdict Reply) (out : List ℕ)
+    → ((id : List ℕ) → DoesIn (close_order (Some e) w o) (before id) reply out (later id)) → (id : List ℕ) → DoesIn (close_order (Some f) w o) (before id) reply out (later id)
+does_close e f same w o before later reply out d = subst (λ x. (id : List ℕ) → DoesIn (close_order (Some x) w o) (before id) reply out (later id)) same d
 
+module _ (b f : Bool) (same : b ≡ f) where
   pub does_undelivered : (o : List ℕ) (before later : Whole) (reply : Verdict Reply) (out : List ℕ) → Does (not_delivered b o) before reply out later → Does (not_delivered f o) before reply out later
   does_undelivered o before later reply out d = subst (λ x. Does (not_delivered x o) before reply out later) same d

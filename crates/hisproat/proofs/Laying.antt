@@ -2,7 +2,7 @@
 -- Assumes nothing.
 use mathlib.Core.Path.{◌≡◌, refl, sym, ◌∙◌, ap, ap₂}
 use mathlib.Core.List.{List, [], ◌∷◌, ◌++◌, append_assoc}
-use mathlib.Core.Option.{Option, some}
+use Rattle.std.specs.Prelude.{Option, Some, Ok, Err}
 use Prim.Native.Nat.{ℕ, ◌≤◌, ◌<◌}
 use native.Mathlib.Omega.{arith}
 use lib.ListN.{length, length-append}
@@ -10,6 +10,8 @@ use types.Run.{OneOf, miss}
 use denote.Enum.Declared.{tag_of}
 use Rattle.octets.specs.Octets.{bytes_of, put}
 use Rattle.octets.specs.Verdict.{Verdict}
+use Rattle.octets.specs.Refusal.{number_of}
+use Rattle.octets.specs.declared.Refusal.{Refusal}
 use Rattle.octets.proofs.Laws.{length_bytes_of, put_not}
 use Rattle.layout.proofs.Parts.{first, more}
 use Rattle.connection_model.specs.Connection.{Answer}
@@ -17,7 +19,7 @@ use Rattle.engine.specs.declared.ConnectionEngine.{ConnectionEngine}
 use Rattle.engine.specs.declared.Outcome.{Outcome}
 use Rattle.engine.specs.declared.Outcome.TheVariants.{Fine, TransportError, IllegalState, NotFound, NotImplemented, RemoteClosed, RemoteClosedWithError}
 use Rattle.engine.specs.declared.Running.{Running}
-use Rattle.engine.specs.declared.Running.TheVariants.{Continue, Stop, Refused}
+use Rattle.engine.specs.declared.Running.TheVariants.{Continue, Stop}
 use Rattle.engine.specs.contracts.Running.{the_type as running_type}
 use Rattle.engine.specs.Answers.{outcome_says, reply_says}
 use Rattle.engine_bytes.specs.Bytes.{outcome_number}
@@ -36,12 +38,12 @@ pub inner_short : (d : List ℕ) (i : Inner) → length d < 26 → d ≡ put d 2
 inner_short d i h = sym (put_not d 2 (inner_bytes i) (omega (arith, length_inner i)))
 
 pub inner_laid :
-    (d o p q r s t : List ℕ) (kind detail ch number from len : ℕ) → 26 ≤ length d → o ≡ put d 2 (bytes_of 1 kind) → p ≡ put o 3 (bytes_of 1 detail)
+    (d o p q r s t : List ℕ) (kind told detail ch number from len : ℕ) → told ≡ kind → 26 ≤ length d → o ≡ put d 2 (bytes_of 1 told) → p ≡ put o 3 (bytes_of 1 detail)
     → q ≡ put p 4 (bytes_of 2 ch) → r ≡ put q 6 (bytes_of 4 number) → s ≡ put r 10 (bytes_of 8 from) → t ≡ put s 18 (bytes_of 8 len)
     → t ≡ put d 2 (inner_bytes (inner kind detail ch number from len))
 unfolding inner_bytes
-inner_laid d o p q r s t kind detail ch number from len h e1 e2 e3 e4 e5 e6 =
-    let l1 = first d 2 1 (bytes_of 1 kind) o (length_bytes_of 1 kind) e1 in
+inner_laid d o p q r s t kind told detail ch number from len k h e1 e2 e3 e4 e5 e6 =
+    let l1 = first d 2 1 (bytes_of 1 kind) o (length_bytes_of 1 kind) (e1 ∙ ap (λ n. put d 2 (bytes_of 1 n)) k) in
     let l2 = more d 2 1 1 3 _ (bytes_of 1 detail) o p l1 (length_bytes_of 1 detail) refl (omega arith) e2 in
     let l3 = more d 2 2 2 4 _ (bytes_of 2 ch) p q l2 (length_bytes_of 2 ch) refl (omega arith) e3 in
     let l4 = more d 2 4 4 6 _ (bytes_of 4 number) q r l3 (length_bytes_of 4 number) refl (omega arith) e4 in
@@ -75,7 +77,7 @@ answer_laid d o p q r s stopped outcome i consumed written h e1 e2 e3 e4 e5 =
 -- ---- an event's end
 
 module _ (d : Done) (x : ConnectionEngine) (s a s' a' : List ℕ) where
-  pub finish_refused : (k : ℕ) → d.running ≡ Refused k → Finishes d x s a k s a
+  pub finish_refused : (k : Refusal) → d.running ≡ Err k → Finishes d x s a (number_of k) s a
   finish_refused k e = record {
     finishes_number = λ v. rw e refl;
     finishes_answer = λ v p. rw e refl;
@@ -86,17 +88,16 @@ module _ (d : Done) (x : ConnectionEngine) (s a s' a' : List ℕ) where
   runs : (r : Running) → OneOf (0 ∷ []) (tag_of running_type r) → r ≡ Continue
   runs Continue o = refl
   runs (Stop x) o = absurd (miss (0 ∷ []) 1 tt o)
-  runs (Refused k) o = absurd (miss (0 ∷ []) 2 tt o)
 
   goes_on_lem :
       (v : Option (Verdict Answer)) → inner_says d.inner ≡ inner_of v → a' ≡ put a 0 (laid_out 0 0 (inner_says d.inner) d.consumed d.written)
-      → a' ≡ answer_after (reply_says Continue d.consumed d.written v) a
+      → a' ≡ answer_after (reply_says (Ok Continue) d.consumed d.written v) a
   unfolding reply_bytes bytes_of
   goes_on_lem v p l = l ∙ ap (λ i. put a 0 (laid_out 0 0 i d.consumed d.written)) p
 
-  pub finish_continue : OneOf (0 ∷ []) (tag_of running_type d.running) → Lays 0 0 d x s a s' a' → Finishes d x s a 0 s' a'
-  finish_continue o l =
-      let e = runs d.running o in
+  pub finish_continue : (r : Running) → d.running ≡ Ok r → OneOf (0 ∷ []) (tag_of running_type r) → Lays 0 0 d x s a s' a' → Finishes d x s a 0 s' a'
+  finish_continue r q o l =
+      let e = q ∙ ap (λ y. Ok y) (runs r o) in
       record {
         finishes_number = λ v. rw e refl;
         finishes_answer = λ v p. rw e (goes_on_lem v p l.lays_answer);
@@ -104,7 +105,7 @@ module _ (d : Done) (x : ConnectionEngine) (s a s' a' : List ℕ) where
         finishes_not = λ n. absurd (n refl);
       }
 
-  ended_laid : (o : Outcome) → bytes_of 1 1 ++ bytes_of 1 (outcome_number (outcome_says o)) ≡ ended_bytes (some (outcome_says o))
+  ended_laid : (o : Outcome) → bytes_of 1 1 ++ bytes_of 1 (outcome_number (outcome_says o)) ≡ ended_bytes (Some (outcome_says o))
   unfolding bytes_of
   ended_laid Fine = refl
   ended_laid TransportError = refl
@@ -116,15 +117,16 @@ module _ (d : Done) (x : ConnectionEngine) (s a s' a' : List ℕ) where
 
   stops :
       (o : Outcome) (v : Option (Verdict Answer)) → inner_says d.inner ≡ inner_of v → a' ≡ put a 0 (laid_out 1 (outcome_number (outcome_says o)) (inner_says d.inner) d.consumed d.written)
-      → a' ≡ answer_after (reply_says (Stop o) d.consumed d.written v) a
+      → a' ≡ answer_after (reply_says (Ok (Stop o)) d.consumed d.written v) a
   unfolding reply_bytes
   stops o v p l =
       l
       ∙ ap (put a 0) (sym (append_assoc (bytes_of 1 1) (bytes_of 1 (outcome_number (outcome_says o))) (inner_bytes (inner_says d.inner) ++ (bytes_of 8 d.consumed ++ bytes_of 8 d.written))))
       ∙ ap₂ (λ y i. put a 0 (y ++ (inner_bytes i ++ (bytes_of 8 d.consumed ++ bytes_of 8 d.written)))) (ended_laid o) p
 
-  pub finish_stop : (o : Outcome) (n : ℕ) → d.running ≡ Stop o → n ≡ outcome_number (outcome_says o) → Lays 1 n d x s a s' a' → Finishes d x s a 0 s' a'
-  finish_stop o n e q l =
+  pub finish_stop : (r : Running) → d.running ≡ Ok r → (o : Outcome) (n : ℕ) → r ≡ Stop o → n ≡ outcome_number (outcome_says o) → Lays 1 n d x s a s' a' → Finishes d x s a 0 s' a'
+  finish_stop r p o n g q l =
+      let e = p ∙ ap (λ y. Ok y) g in
       let m : a' ≡ put a 0 (laid_out 1 (outcome_number (outcome_says o)) (inner_says d.inner) d.consumed d.written) =
       l.lays_answer ∙ ap (λ y. put a 0 (laid_out 1 y (inner_says d.inner) d.consumed d.written)) q in
       record {

@@ -3,7 +3,7 @@
 use mathlib.Core.Path.{◌≡◌, refl, sym, ◌∙◌, ap, ap₂, subst}
 use mathlib.Core.Bool.{true, false}
 use mathlib.Core.List.{List, [], ◌∷◌, ◌++◌, append_assoc}
-use mathlib.Core.Option.{Option, none, some}
+use Rattle.std.specs.Prelude.{Option, None, Some, Result, Ok, Err}
 use Prim.Native.Nat.{ℕ, suc, ◌≤◌, ◌<◌}
 use native.Mathlib.Omega.{arith}
 use lib.ListN.{length, length-append}
@@ -12,17 +12,15 @@ use types.Run.{OneOf, miss}
 use denote.Enum.Declared.{tag_of}
 use Rattle.octets.specs.Octets.{bytes_of, put}
 use Rattle.octets.specs.Verdict.{Verdict, refuse, accept}
+use Rattle.octets.specs.Refusal.{number_of, judged}
+use Rattle.octets.specs.declared.Refusal.{Refusal}
 use Rattle.octets.proofs.Laws.{length_bytes_of, put_not}
-use Rattle.layout.specs.Layout.{may, held}
+use Rattle.layout.specs.Layout.{may}
 use Rattle.layout.proofs.Laws.{length_may}
 use Rattle.layout.proofs.Parts.{first, more}
 use Rattle.frame_encoder.specs.Frames.{Settings}
 use Rattle.channels.specs.Numbers.{taken_below}
 use Rattle.channels.specs.Ties.{handle_of}
-use Rattle.channels.specs.Channels.{agreed_max_says}
-use Rattle.channels.specs.declared.AgreedMax.{AgreedMax}
-use Rattle.channels.specs.declared.AgreedMax.TheVariants.{Absent, Is as Agreed}
-use Rattle.channels.specs.contracts.AgreedMax.{the_type as agreed_type}
 use Rattle.connection_state.specs.declared.ConnectionState.{ConnectionState}
 use Rattle.connection_state.specs.Answers.{state_says}
 use Rattle.connection_state.specs.States.{numbered}
@@ -30,9 +28,6 @@ use Rattle.connection_model.specs.Connection.{Role}
 use Rattle.endpoint.specs.declared.Role as E
 use Rattle.endpoint.specs.Answers.{role_says}
 use Rattle.connection.specs.declared.Connection.{Connection}
-use Rattle.connection.specs.declared.HandleAnswer.{HandleAnswer}
-use Rattle.connection.specs.declared.HandleAnswer.TheVariants.{Handle, Nothing, Refused}
-use Rattle.connection.specs.contracts.HandleAnswer.{the_type as handle_type}
 use Rattle.connection.specs.Promises.{Counts, Looks}
 use Rattle.connection.specs.View as View
 use Rattle.engine_model.specs.Engine as M
@@ -42,8 +37,6 @@ use Rattle.engine.specs.declared.ConnectionEngine.{ConnectionEngine}
 use Rattle.engine.specs.declared.Phase.{Phase}
 use Rattle.engine.specs.Answers.{Whole, whole, connection_in, phase_says, role_of, settings_of, view_of, Sound}
 use Rattle.engine.proofs.Output.{rest_is}
-use Rattle.engine.specs.declared.ResumedEngine.{ResumedEngine}
-use Rattle.engine.specs.declared.ResumedEngine.TheVariants.{Is, Broken}
 use Rattle.engine_bytes.specs.Bytes.{Fixed, role_number, phase_bytes, id_at, tables_at, fixed_at}
 use Rattle.engine_bytes.specs.Promises.{read_says}
 use Rattle.engine_bytes.proofs.Standing.{stand_only}
@@ -68,30 +61,21 @@ module _ (a a' : List ℕ) where
       inner : {g : Option ℕ} → ◌≡◌ {A = Verdict (Option ℕ)} (accept h) (accept g) → h ≡ g
       inner x = cc
 
-  pub puts_there : (x : HandleAnswer) (h : ℕ) → x ≡ Handle h → a' ≡ put a 0 (may 4 (held true h)) → PutsHandle (View.handle_says x) a 0 a'
-  puts_there x h e p = puts_found (View.handle_says x) (some h) (ap View.handle_says e) p
+  module _ (x : Result (Option ℕ) Refusal) where
+    pub puts_there : (g : Option ℕ) → x ≡ Ok g → (h k : ℕ) → g ≡ Some h → k ≡ h → a' ≡ put a 0 (may 4 (Some k)) → PutsHandle (judged x) a 0 a'
+    puts_there g q h k e r p = puts_found (judged x) (Some h) (ap judged (q ∙ ap (λ y. Ok y) e)) (p ∙ ap (λ y. put a 0 (may 4 (Some y))) r)
 
-  pub puts_nothing : (x : HandleAnswer) (n : ℕ) → OneOf (1 ∷ []) (tag_of handle_type x) → a' ≡ put a 0 (may 4 (held false n)) → PutsHandle (View.handle_says x) a 0 a'
-  puts_nothing (Handle h) n t p = absurd (miss (1 ∷ []) 0 tt t)
-  puts_nothing Nothing n t p = puts_found (accept none) none refl p
-  puts_nothing (Refused k) n t p = absurd (miss (1 ∷ []) 2 tt t)
+    pub puts_nothing : (g : Option ℕ) → x ≡ Ok g → g ≡ None → a' ≡ put a 0 (may 4 None) → PutsHandle (judged x) a 0 a'
+    puts_nothing g q e p = puts_found (judged x) None (ap judged (q ∙ ap (λ y. Ok y) e)) p
 
-  pub puts_refused : (x : HandleAnswer) (k : ℕ) → x ≡ Refused k → PutsHandle (View.handle_says x) a k a
-  puts_refused x k e = record {
-    puts_handle = λ h r. both h k (sym r ∙ ap View.handle_says e);
-    puts_not = λ n r. let z : k ≡ n = inner (sym (ap View.handle_says e) ∙ r) in (z, refl);
-  }
-    where
-      inner : {j n : ℕ} → ◌≡◌ {A = Verdict (Option ℕ)} (refuse j) (refuse n) → j ≡ n
-      inner x = cc
-
-module _ (d o : List ℕ) where
-  pub agreed_there : (x : AgreedMax) (m : ℕ) → x ≡ Agreed m → o ≡ put d 12 (may 2 (held true m)) → o ≡ put d 12 (may 2 (agreed_max_says x))
-  agreed_there x m e p = p ∙ ap (λ y. put d 12 (may 2 (agreed_max_says y))) (sym e)
-
-  pub agreed_not : (x : AgreedMax) (n : ℕ) → OneOf (0 ∷ []) (tag_of agreed_type x) → o ≡ put d 12 (may 2 (held false n)) → o ≡ put d 12 (may 2 (agreed_max_says x))
-  agreed_not Absent n t p = p
-  agreed_not (Agreed m) n t p = absurd (miss (0 ∷ []) 1 tt t)
+    pub puts_refused : (k : Refusal) → x ≡ Err k → PutsHandle (judged x) a (number_of k) a
+    puts_refused k e = record {
+      puts_handle = λ h r. both h (number_of k) (sym r ∙ ap judged e);
+      puts_not = λ n r. let z : number_of k ≡ n = inner (sym (ap judged e) ∙ r) in (z, refl);
+    }
+      where
+        inner : {j n : ℕ} → ◌≡◌ {A = Verdict (Option ℕ)} (refuse j) (refuse n) → j ≡ n
+        inner x = cc
 
 -- ---- any reader
 
@@ -103,11 +87,11 @@ reports_short n bytes s a h = record {
   refused = λ r. refl;
 }
 
-module _ (n : ℕ) (bytes : Role → Settings → Engine → List ℕ) (s a : List ℕ) (room : n ≤ length a) (read : ResumedEngine) (reads : read_says (id_at s) read ≡ fixed_at s) where
+module _ (n : ℕ) (bytes : Role → Settings → Engine → List ℕ) (s a : List ℕ) (room : n ≤ length a) (read : Option ConnectionEngine) (reads : read_says (id_at s) read ≡ fixed_at s) where
   never : {f : Fixed} → fixed_at s ≡ accept f → fixed_at s ≡ refuse 8 → ◌≡◌ {A = ℕ} 0 1
   never p q = cc
 
-  pub reports_broken : read ≡ Broken → Reports n bytes s a (told 8 a)
+  pub reports_broken : read ≡ None → Reports n bytes s a (told 8 a)
   reports_broken b = record {
     short = λ t. clash (sym (le-leb n (length a) room) ∙ t);
     broken = λ t n. refl;
@@ -115,7 +99,7 @@ module _ (n : ℕ) (bytes : Role → Settings → Engine → List ℕ) (s a : Li
     refused = λ r. refl;
   }
 
-  module _ (e : ConnectionEngine) (known : read ≡ Is e) where
+  module _ (e : ConnectionEngine) (known : read ≡ Some e) where
     pub reports : (k : ℕ) (a' : List ℕ) → (Sound (whole e (tables_at s) (id_at s)) → (k ≡ 0) × (a' ≡ put a 0 (bytes (role_of (whole e (tables_at s) (id_at s))) (settings_of (whole e (tables_at s) (id_at s))) (view_of (whole e (tables_at s) (id_at s))))))
         → ((k ≡ 0 → ⊥) → a' ≡ a) → Reports n bytes s a (told k a')
     reports k a' p q = record {
@@ -142,7 +126,7 @@ module _ (n : ℕ) (bytes : Role → Settings → Engine → List ℕ) (s a : Li
 
 -- ---- handles
 
-module _ (ch : ℕ) (s a : List ℕ) (room : 5 ≤ length a) (read : ResumedEngine) (reads : read_says (id_at s) read ≡ fixed_at s) (e : ConnectionEngine) (known : read ≡ Is e) (c : Connection) (same : c ≡ e.connection)
+module _ (ch : ℕ) (s a : List ℕ) (room : 5 ≤ length a) (read : Option ConnectionEngine) (reads : read_says (id_at s) read ≡ fixed_at s) (e : ConnectionEngine) (known : read ≡ Some e) (c : Connection) (same : c ≡ e.connection)
     (v : Verdict (Option ℕ)) (k : ℕ) (a' : List ℕ) (p : PutsHandle v a k a') where
   pub taken_told : ((id : List ℕ) → Looks (View.whole c (lent_tables s) id) ((View.view_of (View.whole c (lent_tables s) id)).taken ch) v) → Reports 5 (taken_bytes ch) s a (told k a')
   unfolding taken_bytes
@@ -209,7 +193,7 @@ pub status_laid :
     → (j : ℕ) → j ≡ numbered (state_says x) → (q : List ℕ) → q ≡ put p 3 (bytes_of 1 j)
     → (reading : ℕ) → reading ≡ c.endpoint.reading_limit → (r : List ℕ) → r ≡ put q 4 (bytes_of 4 reading)
     → (writing : ℕ) → writing ≡ c.endpoint.writing_limit → (t : List ℕ) → t ≡ put r 8 (bytes_of 4 writing)
-    → (g : AgreedMax) → ((t id : List ℕ) → agreed_max_says g ≡ (View.view_of (View.whole c t id)).agreed_max) → (u : List ℕ) → u ≡ put t 12 (may 2 (agreed_max_says g))
+    → (g : Option ℕ) → ((t id : List ℕ) → g ≡ (View.view_of (View.whole c t id)).agreed_max) → (u : List ℕ) → u ≡ put t 12 (may 2 g)
     → (n : ℕ) → ((t id : List ℕ) → Counts (View.whole c t id) n) → (b : List ℕ) → b ≡ put u 15 (bytes_of 4 n)
     → (tables id : List ℕ) → PutsStatus (whole e tables id) a b
 status_laid e a h c same x x-is role role_is k k-is o e1 ph ph-is p e2 j j-is q e3 reading reading-is r e4 writing writing-is t e5 g g-is u e6 n n-is b e7 tables id = record {
@@ -230,6 +214,6 @@ status_laid e a h c same x x-is role role_is k k-is o e1 ph ph-is p e2 j j-is q 
 }
 
 pub status_told :
-    (s a : List ℕ) → 19 ≤ length a → (read : ResumedEngine) → read_says (id_at s) read ≡ fixed_at s → (e : ConnectionEngine) → read ≡ Is e → (a' : List ℕ)
+    (s a : List ℕ) → 19 ≤ length a → (read : Option ConnectionEngine) → read_says (id_at s) read ≡ fixed_at s → (e : ConnectionEngine) → read ≡ Some e → (a' : List ℕ)
     → ((t id : List ℕ) → PutsStatus (whole e t id) a a') → Reports 19 status_bytes s a (told 0 a')
 status_told s a room read reads e known a' p = reports 19 status_bytes s a room read reads e known 0 a' (λ z. (refl, (p (tables_at s) (id_at s)).puts z)) (λ n. absurd (n refl))

@@ -4,15 +4,14 @@
 -- Assumes nothing: these are definitions.
 use mathlib.Core.Path.{◌≡◌}
 use mathlib.Core.List.{List, [], ◌∷◌}
-use mathlib.Core.Option.{none, some}
+use Rattle.std.specs.Prelude.{None, Some}
 use Prim.Native.Nat.{ℕ}
 use Rattle.frame_encoder.specs.Frames.{Settings}
-use Rattle.frame_encoder.specs.Answers.{error_text}
 use Rattle.connection_model.specs.Connection as M
 use Rattle.connection_model.specs.Connection.{Role}
 use Rattle.connection.proofs.Runs.{Returned}
 use Rattle.engine_model.specs.Engine.{Event, send_header, receive_header, send_open, incoming, close_order, allocate, deallocate, outgoing, tick, end_of_input, not_delivered}
-use Rattle.hisproat.specs.Answers.{flagged, settings_of}
+use Rattle.hisproat.specs.Answers.{flagged, settings_of, error_of}
 use Rattle.hisproat.specs.Crossing.{Crossing, crossing, Shown, shown}
 use Rattle.hisproat.specs.Lists.{Called}
 use Rattle.hisproat.proofs.hisproat_send_header.Reads as SendHeaderReads
@@ -92,8 +91,8 @@ pub data Step : Event → List ℕ → List ℕ → Crossing → Type 0 where
   receive_header_step : (x : ReceiveHeader) → Step (receive_header x.args.1.0.now) x.args.0.now x.args.1.1.0.now (crossing x.result x.exits.0.now x.exits.1.1.0.now [])
   send_open_step : (x : SendOpen) → Step (send_open x.args.1.0.now) x.args.0.now x.args.1.1.0.now (crossing x.result x.exits.0.now x.exits.1.1.0.now x.exits.1.0.now)
   on_incoming_step : (x : OnIncoming) → Step (incoming x.args.1.0.now x.args.1.1.0 x.args.1.1.1.0.now x.args.1.1.1.1.0.now) x.args.0.now x.args.1.1.1.1.1.0.now (crossing x.result x.exits.0.now x.exits.1.1.1.1.1.0.now x.exits.1.1.1.1.0.now)
-  on_close_step : (x : OnClose) → Step (close_order none x.args.1.0.now x.args.1.1.0.now) x.args.0.now x.args.1.1.1.0.now (crossing x.result x.exits.0.now x.exits.1.1.1.0.now x.exits.1.1.0.now)
-  on_close_with_error_step : (x : OnCloseWithError) → Step (close_order (some (error_text x.args.1.0.now (flagged x.args.1.1.0) x.args.1.1.1.0.now)) x.args.1.1.1.1.0.now x.args.1.1.1.1.1.0.now) x.args.0.now x.args.1.1.1.1.1.1.0.now (crossing x.result x.exits.0.now x.exits.1.1.1.1.1.1.0.now x.exits.1.1.1.1.1.0.now)
+  on_close_step : (x : OnClose) → Step (close_order None x.args.1.0.now x.args.1.1.0.now) x.args.0.now x.args.1.1.1.0.now (crossing x.result x.exits.0.now x.exits.1.1.1.0.now x.exits.1.1.0.now)
+  on_close_with_error_step : (x : OnCloseWithError) → Step (close_order (Some (error_of x.args.1.0.now x.args.1.1.0 x.args.1.1.1.0.now)) x.args.1.1.1.1.0.now x.args.1.1.1.1.1.0.now) x.args.0.now x.args.1.1.1.1.1.1.0.now (crossing x.result x.exits.0.now x.exits.1.1.1.1.1.1.0.now x.exits.1.1.1.1.1.0.now)
   on_allocate_step : (x : OnAllocate) → Step (allocate x.args.1.0) x.args.0.now x.args.1.1.0.now (crossing x.result x.exits.0.now x.exits.1.1.0.now [])
   on_deallocate_step : (x : OnDeallocate) → Step (deallocate x.args.1.0) x.args.0.now x.args.1.1.0.now (crossing x.result x.exits.0.now x.exits.1.1.0.now [])
   on_outgoing_step : (x : OnOutgoing) → Step (outgoing x.args.1.0.now x.args.1.1.0.now) x.args.0.now x.args.1.1.1.0.now (crossing x.result x.exits.0.now x.exits.1.1.1.0.now x.exits.1.1.0.now)

@@ -3,7 +3,7 @@
 use mathlib.Core.Path.{◌≡◌, refl, sym, ◌∙◌, ap, ap₂, subst}
 use mathlib.Core.Bool.{Bool, true, false, ◌&&◌}
 use mathlib.Core.List.{List, ◌++◌}
-use mathlib.Core.Option.{Option}
+use Rattle.std.specs.Prelude.{Option, Result, Ok, Err}
 use Prim.Native.Nat.{ℕ, suc, ◌+◌, ◌-◌, ◌*◌, ◌^◌, ◌≤◌, ◌<◌}
 use native.Mathlib.Omega.{arith}
 use lib.Dec.{leb}
@@ -12,6 +12,8 @@ use lib.Seq.{drop-drop}
 use borrow.Author.Tests.{le-leb, lt-leb, leb-true, leb-false}
 use Rattle.octets.specs.Octets.{big_endian, put}
 use Rattle.octets.specs.Verdict.{refuse, accept, require}
+use Rattle.octets.specs.Refusal.{number_of}
+use Rattle.octets.specs.declared.Refusal.{Refusal}
 use Rattle.octets.proofs.Laws.{require_on, require_off, length_put}
 use Rattle.layout.specs.Layout.{held}
 use Rattle.frame_encoder.specs.Frames.{Settings}
@@ -28,8 +30,6 @@ use Rattle.connection.specs.Promises as C
 use Rattle.connection.specs.View as View
 use Rattle.endpoint.proofs.Limits.{reached_limits}
 use Rattle.engine.specs.declared.ConnectionEngine.{ConnectionEngine}
-use Rattle.engine.specs.declared.NewEngine.{NewEngine}
-use Rattle.engine.specs.declared.NewEngine.TheVariants.{Made, Refused}
 use Rattle.engine.specs.Answers.{whole, settings_of, view_of, phase_says, Sound}
 use Rattle.engine.specs.Promises.{new_in}
 use Rattle.engine.specs.Promises as E
@@ -59,20 +59,20 @@ module _ (s r : List ℕ) (n : ℕ) (long : 300 ≤ length s) (read : (n ≡ big
 
 -- ---- laid or refused
 
-not_both : {A : Type 0} (e : ConnectionEngine) (n : ℕ) → ◌≡◌ {A = NewEngine} (Made e) (Refused n) → A
+not_both : {A : Type 0} (e : ConnectionEngine) (n : Refusal) → ◌≡◌ {A = Result ConnectionEngine Refusal} (Ok e) (Err n) → A
 not_both e n q = let z : ◌≡◌ {A = ℕ} 0 1 = cc in absurd (omega arith)
 
-module _ (new : NewEngine) (id s s' : List ℕ) where
-  pub starts_made : (e : ConnectionEngine) → new ≡ Made e → s' ≡ put s 0 (fixed_bytes (fixed_in e id)) → Starts new id s 0 s'
+module _ (new : Result ConnectionEngine Refusal) (id s s' : List ℕ) where
+  pub starts_made : (e : ConnectionEngine) → new ≡ Ok e → s' ≡ put s 0 (fixed_bytes (fixed_in e id)) → Starts new id s 0 s'
   starts_made e q p = record {
     starts = λ f r. let z : e ≡ f = cc in (refl, p ∙ ap (λ x. put s 0 (fixed_bytes (fixed_in x id))) z);
     starts_not = λ n r. not_both e n (sym q ∙ r);
   }
 
-  pub starts_refused : (k : ℕ) → new ≡ Refused k → Starts new id s k s
+  pub starts_refused : (k : Refusal) → new ≡ Err k → Starts new id s (number_of k) s
   starts_refused k q = record {
     starts = λ e r. not_both e k (sym r ∙ q);
-    starts_not = λ n r. let z : k ≡ n = cc in (z, refl);
+    starts_not = λ n r. let z : k ≡ n = cc in (ap number_of z, refl);
   }
 
 -- ---- a state that is too short for any
@@ -91,7 +91,7 @@ makes_short role S s h = record {
 
 -- ---- one that has room
 
-module _ (role : Role) (S : Settings) (s : List ℕ) (long : 300 ≤ length s) (idle_low : idle_number S.idle_time_out < 256 ^ 4) (new : NewEngine) (t : List ℕ) (m : E.Makes role S (lent_tables s) new t)
+module _ (role : Role) (S : Settings) (s : List ℕ) (long : 300 ≤ length s) (idle_low : idle_number S.idle_time_out < 256 ^ 4) (new : Result ConnectionEngine Refusal) (t : List ℕ) (m : E.Makes role S (lent_tables s) new t)
     (k : ℕ) (s' : List ℕ) (starts : Starts new S.container_id (given_back_lem s t) k s') where
   abbrev id : List ℕ
   id = S.container_id
@@ -123,19 +123,19 @@ module _ (role : Role) (S : Settings) (s : List ℕ) (long : 300 ≤ length s) (
   checks = m.made.checks ∙ ap (λ b. require 8 (allowed S && b) (λ _. accept tt)) same_cover
 
   -- the engine that was made
-  made_one : (r : NewEngine) → C.made_says (new_in r) ≡ accept tt → (e : ConnectionEngine) × (r ≡ Made e)
-  made_one (Made e) q = (e, refl)
-  made_one (Refused j) q = let z : ◌≡◌ {A = ℕ} 0 1 = cc in absurd (omega arith)
+  made_one : (r : Result ConnectionEngine Refusal) → C.made_says (new_in r) ≡ accept tt → (e : ConnectionEngine) × (r ≡ Ok e)
+  made_one (Ok e) q = (e, refl)
+  made_one (Err j) q = let z : ◌≡◌ {A = ℕ} 0 1 = cc in absurd (omega arith)
 
   -- or the refusal
-  made_none : (r : NewEngine) → C.made_says (new_in r) ≡ refuse 8 → r ≡ Refused 8
-  made_none (Made e) q = let z : ◌≡◌ {A = ℕ} 0 1 = cc in absurd (omega arith)
-  made_none (Refused j) q = let z : j ≡ 8 = cc in ap Refused z
+  made_none : (r : Result ConnectionEngine Refusal) → C.made_says (new_in r) ≡ refuse 8 → (j : Refusal) × ((r ≡ Err j) × (number_of j ≡ 8))
+  made_none (Ok e) q = let z : ◌≡◌ {A = ℕ} 0 1 = cc in absurd (omega arith)
+  made_none (Err j) q = let z : number_of j ≡ 8 = cc in (j, (refl, z))
 
-  unchanged : (j : ℕ) → new ≡ Refused j → s' ≡ s
+  unchanged : (j : Refusal) → new ≡ Err j → s' ≡ s
   unchanged j q = (starts.starts_not j q).1 ∙ given_is s t ∙ ap (λ x. take 300 s ++ x) (m.made.refused j (ap new_in q) ∙ lent_is) ∙ take-append-drop 300 s
 
-  module _ (e : ConnectionEngine) (is : new ≡ Made e) where
+  module _ (e : ConnectionEngine) (is : new ≡ Ok e) where
     begun : C.Begun role S (View.whole e.connection t id)
     begun = m.made.made e.connection (ap new_in is)
 
@@ -201,19 +201,19 @@ module _ (role : Role) (S : Settings) (s : List ℕ) (long : 300 ≤ length s) (
     long_made : length s' ≡ length s
     long_made = ap length laid ∙ length_put given 0 (fixed_bytes f) ∙ given_long
 
-  long_as : (r : NewEngine) → new ≡ r → length s' ≡ length s
-  long_as (Made e) q = long_made e q
-  long_as (Refused j) q = ap length (unchanged j q)
+  long_as : (r : Result ConnectionEngine Refusal) → new ≡ r → length s' ≡ length s
+  long_as (Ok e) q = long_made e q
+  long_as (Err j) q = ap length (unchanged j q)
 
-  rest_as : (r : NewEngine) → new ≡ r → drop (state_size S.channel_max) s' ≡ drop (state_size S.channel_max) s
-  rest_as (Made e) q = rest_made e q
-  rest_as (Refused j) q = ap (drop (state_size S.channel_max)) (unchanged j q)
+  rest_as : (r : Result ConnectionEngine Refusal) → new ≡ r → drop (state_size S.channel_max) s' ≡ drop (state_size S.channel_max) s
+  rest_as (Ok e) q = rest_made e q
+  rest_as (Err j) q = ap (drop (state_size S.channel_max)) (unchanged j q)
 
   made_so : Makes role S s (record { returned = k; state = s' })
   made_so = record {
     broken = λ q.
         let r = made_none new (checks ∙ require_off 8 _ _ q) in
-        ap₂ (λ j x. record { returned = j; state = x }) (starts.starts_not 8 r).0 (unchanged 8 r);
+        ap₂ (λ j x. record { returned = j; state = x }) ((starts.starts_not r.0 r.1.0).0 ∙ r.1.1) (unchanged r.0 r.1.0);
     makes = λ q.
         let o = made_one new (checks ∙ require_on 8 _ _ q) in
         ((starts.starts o.0 o.1).0, stands o.0 o.1);
@@ -227,7 +227,7 @@ held_low false n h = omega arith
 
 -- with the settings as they are handed over
 pub makes :
-    (role : Role) (id : List ℕ) (size highest : ℕ) (there : Bool) (millis : ℕ) (s : List ℕ) → 300 ≤ length s → millis < 4294967296 → (idle : Option ℕ) → idle ≡ held there millis → (new : NewEngine) (t : List ℕ)
+    (role : Role) (id : List ℕ) (size highest : ℕ) (there : Bool) (millis : ℕ) (s : List ℕ) → 300 ≤ length s → millis < 4294967296 → (idle : Option ℕ) → idle ≡ held there millis → (new : Result ConnectionEngine Refusal) (t : List ℕ)
     → E.Makes role (record { container_id = id; max_frame_size = size; channel_max = highest; idle_time_out = idle }) (lent_tables s) new t → (k : ℕ) (s' : List ℕ) → Starts new id (given_back_lem s t) k s'
     → Makes role (record { container_id = id; max_frame_size = size; channel_max = highest; idle_time_out = held there millis }) s (record { returned = k; state = s' })
 makes role id size highest there millis s long low idle e new t m k s' starts =

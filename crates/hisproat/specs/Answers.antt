@@ -1,11 +1,10 @@
 -- What a C caller is told: numbers in the bytes that it lends for answers, big-endian.
 -- Assumes nothing: these are definitions.
-use Rattle.std.specs.Prelude.{Bool, not, List, [], ◌∷◌, ◌++◌, ℕ, suc, eqb}
-use Rattle.std.proofs.Math.Option.{Option, none, some}
+use Rattle.std.specs.Prelude.{Bool, true, false, not, List, [], ◌∷◌, ◌++◌, ℕ, suc, eqb, Option, None, Some}
 use Rattle.octets.specs.Octets.{bytes_of}
 use Rattle.octets.specs.Verdict.{Verdict, refuse, accept}
 use Rattle.layout.specs.Layout.{may, held}
-use Rattle.frame_encoder.specs.Frames.{Settings}
+use Rattle.frame_encoder.specs.Frames.{Settings, ErrorText}
 use Rattle.connection_state.specs.States.{numbered}
 use Rattle.channels.specs.Numbers.{one, taken_below}
 use Rattle.channels.specs.Ties.{handle_of}
@@ -20,6 +19,15 @@ flagged k = not (eqb k 0)
 -- settings as they are handed over
 abbrev pub settings_of : List ℕ → ℕ → ℕ → ℕ → ℕ → Settings
 settings_of id size highest has idle = record { container_id = id; max_frame_size = size; channel_max = highest; idle_time_out = held (flagged has) idle }
+
+-- a description, if its flag says that there is one
+abbrev pub given : Bool → List ℕ → Option (List ℕ)
+given true d = Some d
+given false d = None
+
+-- the text of an error as it is handed over
+abbrev pub error_of : List ℕ → ℕ → List ℕ → ErrorText
+error_of condition has description = record { condition = condition; description = given (flagged has) description }
 
 -- ---- the answer of an event, 42 bytes
 --     1  whether the engine stopped        1  what the connection's call answered: its kind     8  where the body starts
@@ -54,16 +62,16 @@ answer_inner (freed h) = inner 12 0 0 h 0 0
 
 -- 0 where there was no call, 1 for a refusal
 abbrev pub inner_of : Option (Verdict Answer) → Inner
-inner_of none = inner 0 0 0 0 0 0
-inner_of (some (refuse k)) = inner 1 k 0 0 0 0
-inner_of (some (accept a)) = answer_inner a
+inner_of None = inner 0 0 0 0 0 0
+inner_of (Some (refuse k)) = inner 1 k 0 0 0 0
+inner_of (Some (accept a)) = answer_inner a
 
 unfoldable pub inner_bytes : Inner → List ℕ
 inner_bytes i = bytes_of 1 i.kind ++ (bytes_of 1 i.detail ++ (bytes_of 2 i.channel ++ (bytes_of 4 i.number ++ (bytes_of 8 i.from ++ bytes_of 8 i.len))))
 
 abbrev pub ended_bytes : Option Outcome → List ℕ
-ended_bytes none = 0 ∷ 0 ∷ []
-ended_bytes (some o) = 1 ∷ outcome_number o ∷ []
+ended_bytes None = 0 ∷ 0 ∷ []
+ended_bytes (Some o) = 1 ∷ outcome_number o ∷ []
 
 unfoldable pub reply_bytes : Reply → List ℕ
 reply_bytes r = ended_bytes r.ended ++ (inner_bytes (inner_of r.inner) ++ (bytes_of 8 r.consumed ++ bytes_of 8 r.written))

@@ -1,47 +1,21 @@
 // What came of an event, in numbers, and how it is laid into the lent answer.
-ghost use Rattle.std.specs.Prelude.{◌≡◌, ◌++◌};
-ghost use Rattle.std.proofs.Math.Option.{none, some};
+ghost use Rattle.std.specs.Prelude.{◌≡◌, ◌++◌, Err, Ok};
 ghost use Rattle.octets.specs.Octets.{bytes_of, put};
-ghost use Rattle.connection.specs.View.{header_says, allocate_says, freed_says, tick_says};
-ghost use Rattle.endpoint.specs.Answers.{answer_says, sent_says};
+ghost use Rattle.octets.specs.Refusal.{number_of};
+ghost use Rattle.connection.specs.View.{header_says, freed_says, tick_says};
+ghost use Rattle.endpoint.specs.Answers.{came_says, answer_says, sent_says, allocate_says};
 ghost use Rattle.engine.specs.Answers.{reply_says, opening_says, sent_count, tick_count};
-ghost use Rattle.hisproat.specs.Answers.{inner, inner_of, inner_bytes};
+ghost use Rattle.hisproat.specs.Answers.{inner, answer_inner, inner_of, inner_bytes};
 ghost use Rattle.channels.specs.Numbers.{one};
-ghost use Rattle.hisproat.specs.Promises.{inner_says, HeaderRuns, Amounts, Lays, Finishes};
+ghost use Rattle.hisproat.specs.Promises.{kind_number, inner_says, HeaderRuns, Amounts, Lays, Finishes};
 
 use crate::ANSWER_SIZE;
-use connection::{AllocateAnswer, DeallocateAnswer, HeaderAnswer, TickAnswer};
+use crate::kind::Kind;
+use connection::{HeaderAnswer, TickAnswer};
 use endpoint::FrameAnswer;
 use engine::{ConnectionEngine, Running};
 use engine_bytes::numbers::outcome_number;
-use octets::{Written, put_number};
-
-// What the connection's call inside an event answered.
-const KIND_NONE: u8 = 0;
-
-const KIND_REFUSED: u8 = 1;
-
-const KIND_WROTE: u8 = 2;
-
-const KIND_END: u8 = 3;
-
-const KIND_HEADER: u8 = 4;
-
-const KIND_OTHER_PROTOCOL: u8 = 5;
-
-const KIND_NOTHING: u8 = 6;
-
-const KIND_OPENED: u8 = 7;
-
-const KIND_CLOSED: u8 = 8;
-
-const KIND_FORWARD: u8 = 9;
-
-const KIND_BEGAN: u8 = 10;
-
-const KIND_CHANNEL: u8 = 11;
-
-const KIND_FREED: u8 = 12;
+use octets::{Refusal, put_number};
 
 // The code of a Begin.
 const BEGIN: u8 = 17;
@@ -49,7 +23,7 @@ const BEGIN: u8 = 17;
 // What the call inside answered, in numbers. What a kind does not have is zero.
 #[derive(Clone, Copy)]
 pub struct Inner {
-    kind: u8,
+    kind: Kind,
     detail: u8,
     channel: u16,
     number: u32,
@@ -60,15 +34,15 @@ pub struct Inner {
 // What came of an event, besides the engine.
 #[derive(Clone, Copy)]
 pub struct Done {
-    running: Running,
+    running: Result<Running, Refusal>,
     consumed: usize,
     written: usize,
     inner: Inner,
 }
 
 // An answer of a kind, with a detail and nothing else.
-fn plain(kind: u8, detail: u8) -> Inner
-    ensures { inner_says result ≡ inner kind detail 0 0 0 0 }
+fn plain(kind: Kind, detail: u8) -> Inner
+    ensures { inner_says result ≡ inner (kind_number kind) detail 0 0 0 0 }
 {
     Inner {
         kind,
@@ -80,63 +54,76 @@ fn plain(kind: u8, detail: u8) -> Inner
     }
 }
 
-fn written_inner(answer: Written) -> Inner
-    ensures { inner_says result ≡ inner_of (some (sent_says answer)) }
+// The answer of a call that was refused
+fn refused(refusal: Refusal) -> Inner
+    ensures { inner_says result ≡ inner 1 (number_of refusal) 0 0 0 0 }
+{
+    plain(Kind::Refused, refusal.number())
+}
+
+fn written_inner(answer: Result<usize, Refusal>) -> Inner
+    ensures { inner_says result ≡ inner_of (Some (sent_says answer)) }
 {
     match answer {
-        Written::Bytes(_) => plain(KIND_WROTE, 0),
-        Written::Refused(k) => plain(KIND_REFUSED, k),
+        Ok(_) => plain(Kind::Wrote, 0),
+        Err(refusal) => refused(refusal),
     }
 }
 
-fn header_inner(answer: HeaderAnswer) -> Inner
-    ensures { inner_says result ≡ inner_of (some (header_says answer)) }
+fn header_inner(answer: Result<HeaderAnswer, Refusal>) -> Inner
+    ensures { inner_says result ≡ inner_of (Some (header_says answer)) }
 {
-    match answer {
-        HeaderAnswer::Amqp(_) => plain(KIND_HEADER, 0),
-        HeaderAnswer::OtherProtocol(_) => plain(KIND_OTHER_PROTOCOL, 0),
-        HeaderAnswer::Refused(k) => plain(KIND_REFUSED, k),
+    let header = match answer {
+        Err(refusal) => return refused(refusal),
+        Ok(header) => header,
+    };
+    match header {
+        HeaderAnswer::Amqp(_) => plain(Kind::Header, 0),
+        HeaderAnswer::OtherProtocol(_) => plain(Kind::OtherProtocol, 0),
     }
 }
 
-fn tick_inner(answer: TickAnswer) -> Inner
-    ensures { inner_says result ≡ inner_of (some (tick_says answer)) }
+fn tick_inner(answer: Result<TickAnswer, Refusal>) -> Inner
+    ensures { inner_says result ≡ inner_of (Some (tick_says answer)) }
 {
-    match answer {
-        TickAnswer::Wrote(_) => plain(KIND_WROTE, 0),
-        TickAnswer::Stop => plain(KIND_END, 0),
-        TickAnswer::Refused(k) => plain(KIND_REFUSED, k),
+    let ticked = match answer {
+        Err(refusal) => return refused(refusal),
+        Ok(ticked) => ticked,
+    };
+    match ticked {
+        TickAnswer::Wrote(_) => plain(Kind::Wrote, 0),
+        TickAnswer::Stop => plain(Kind::End, 0),
     }
 }
 
-fn allocate_inner(answer: AllocateAnswer) -> Inner
-    ensures { inner_says result ≡ inner_of (some (allocate_says answer)) }
+fn allocate_inner(answer: Result<u16, Refusal>) -> Inner
+    ensures { inner_says result ≡ inner_of (Some (allocate_says answer)) }
 {
     match answer {
-        AllocateAnswer::Channel(channel) => Inner {
-            kind: KIND_CHANNEL,
+        Ok(channel) => Inner {
+            kind: Kind::Channel,
             detail: 0,
             channel,
             number: 0,
             from: 0,
             len: 0,
         },
-        AllocateAnswer::Refused(k) => plain(KIND_REFUSED, k),
+        Err(refusal) => refused(refusal),
     }
 }
 
-fn deallocate_inner(answer: DeallocateAnswer) -> Inner
-    ensures { inner_says result ≡ inner_of (some (freed_says answer)) }
+fn deallocate_inner(answer: Result<u32, Refusal>) -> Inner
+    ensures { inner_says result ≡ inner_of (Some (freed_says answer)) }
 {
     match answer {
-        DeallocateAnswer::Freed(handle) => numbered(KIND_FREED, handle),
-        DeallocateAnswer::Refused(k) => plain(KIND_REFUSED, k),
+        Ok(handle) => numbered(Kind::Freed, handle),
+        Err(refusal) => refused(refusal),
     }
 }
 
 // An answer of a kind, with a number and nothing else.
-fn numbered(kind: u8, number: u32) -> Inner
-    ensures { inner_says result ≡ inner kind 0 0 number 0 0 }
+fn numbered(kind: Kind, number: u32) -> Inner
+    ensures { inner_says result ≡ inner (kind_number kind) 0 0 number 0 0 }
 {
     Inner {
         kind,
@@ -151,46 +138,52 @@ fn numbered(kind: u8, number: u32) -> Inner
 fn flag(b: bool) -> u8
     ensures { result ≡ one b }
 {
-    if b {
-        return 1;
-    }
-    0
+    u8::from(b)
 }
 
-fn frame_inner(answer: FrameAnswer) -> Inner
-    ensures { inner_says result ≡ inner_of (some (answer_says answer)) }
+fn frame_inner(answer: Result<FrameAnswer, Refusal>) -> Inner
+    ensures { inner_says result ≡ inner_of (Some (answer_says answer)) }
 {
     match answer {
-        FrameAnswer::NothingToDo { consumed: _ } => plain(KIND_NOTHING, 0),
+        Err(refusal) => refused(refusal),
+        Ok(taken) => taken_inner(taken),
+    }
+}
+
+// What came of a frame that was taken.
+fn taken_inner(taken: FrameAnswer) -> Inner
+    ensures { inner_says result ≡ answer_inner (came_says taken) }
+{
+    match taken {
+        FrameAnswer::NothingToDo { consumed: _ } => plain(Kind::NothingToDo, 0),
         FrameAnswer::Opened {
             consumed: _,
             idle_time_out,
-        } => numbered(KIND_OPENED, idle_time_out),
+        } => numbered(Kind::Opened, idle_time_out),
         FrameAnswer::Closed {
             consumed: _,
             with_error,
-        } => plain(KIND_CLOSED, flag(with_error)),
+        } => plain(Kind::Closed, flag(with_error)),
         FrameAnswer::Forward {
             consumed: _,
             code,
             handle,
             from,
             len,
-        } => body(KIND_FORWARD, code, 0, handle, from, len),
+        } => body(Kind::Forward, code, 0, handle, from, len),
         FrameAnswer::Began {
             consumed: _,
             channel,
             handle,
             from,
             len,
-        } => body(KIND_BEGAN, BEGIN, channel, handle, from, len),
-        FrameAnswer::Refused(k) => plain(KIND_REFUSED, k),
+        } => body(Kind::Began, BEGIN, channel, handle, from, len),
     }
 }
 
 // A body that goes on to a session.
-fn body(kind: u8, code: u8, channel: u16, handle: u32, from: usize, len: usize) -> Inner
-    ensures { inner_says result ≡ inner kind code channel handle from len }
+fn body(kind: Kind, code: u8, channel: u16, handle: u32, from: usize, len: usize) -> Inner
+    ensures { inner_says result ≡ inner (kind_number kind) code channel handle from len }
 {
     Inner {
         kind,
@@ -203,19 +196,19 @@ fn body(kind: u8, code: u8, channel: u16, handle: u32, from: usize, len: usize) 
 }
 
 // What a call that opens the connection and writes came to.
-pub fn opening_sent(answer: Written) -> Done
-    ensures { Amounts result (some (sent_says answer)) (opening_says 0 (sent_count answer) (sent_says answer)) }
+pub fn opening_sent(answer: Result<usize, Refusal>) -> Done
+    ensures { Amounts result (Some (sent_says answer)) (opening_says 0 (sent_count answer) (sent_says answer)) }
 {
     let inner = written_inner(answer);
     match answer {
-        Written::Bytes(n) => Done {
-            running: Running::Continue,
+        Ok(n) => Done {
+            running: Ok(Running::Continue),
             consumed: 0,
             written: n,
             inner,
         },
-        Written::Refused(k) => Done {
-            running: Running::Refused(k),
+        Err(refusal) => Done {
+            running: Err(refusal),
             consumed: 0,
             written: 0,
             inner,
@@ -224,19 +217,18 @@ pub fn opening_sent(answer: Written) -> Done
 }
 
 // Whether a header that came was refused.
-fn header_running(answer: HeaderAnswer) -> Running
+fn header_running(answer: Result<HeaderAnswer, Refusal>) -> Result<Running, Refusal>
     ensures { HeaderRuns answer result }
 {
     match answer {
-        HeaderAnswer::Amqp(_) => Running::Continue,
-        HeaderAnswer::OtherProtocol(_) => Running::Continue,
-        HeaderAnswer::Refused(k) => Running::Refused(k),
+        Ok(_) => Ok(Running::Continue),
+        Err(refusal) => Err(refusal),
     }
 }
 
 // What a header that came led to.
-pub fn opening_received(answer: HeaderAnswer) -> Done
-    ensures { Amounts result (some (header_says answer)) (opening_says 8 0 (header_says answer)) }
+pub fn opening_received(answer: Result<HeaderAnswer, Refusal>) -> Done
+    ensures { Amounts result (Some (header_says answer)) (opening_says 8 0 (header_says answer)) }
 {
     Done {
         running: header_running(answer),
@@ -246,8 +238,8 @@ pub fn opening_received(answer: HeaderAnswer) -> Done
     }
 }
 
-pub fn allocated(running: Running, answer: AllocateAnswer) -> Done
-    ensures { Amounts result (some (allocate_says answer)) (reply_says running 0 0 (some (allocate_says answer))) }
+pub fn allocated(running: Result<Running, Refusal>, answer: Result<u16, Refusal>) -> Done
+    ensures { Amounts result (Some (allocate_says answer)) (reply_says running 0 0 (Some (allocate_says answer))) }
 {
     Done {
         running,
@@ -257,8 +249,8 @@ pub fn allocated(running: Running, answer: AllocateAnswer) -> Done
     }
 }
 
-pub fn deallocated(running: Running, answer: DeallocateAnswer) -> Done
-    ensures { Amounts result (some (freed_says answer)) (reply_says running 0 0 (some (freed_says answer))) }
+pub fn deallocated(running: Result<Running, Refusal>, answer: Result<u32, Refusal>) -> Done
+    ensures { Amounts result (Some (freed_says answer)) (reply_says running 0 0 (Some (freed_says answer))) }
 {
     Done {
         running,
@@ -269,18 +261,18 @@ pub fn deallocated(running: Running, answer: DeallocateAnswer) -> Done
 }
 
 // How many bytes a tick wrote.
-fn tick_count(answer: TickAnswer) -> usize
+fn tick_count(answer: Result<TickAnswer, Refusal>) -> usize
     ensures { result ≡ tick_count answer }
 {
     match answer {
-        TickAnswer::Wrote(n) => n,
-        TickAnswer::Stop => 0,
-        TickAnswer::Refused(_) => 0,
+        Ok(TickAnswer::Wrote(n)) => n,
+        Ok(TickAnswer::Stop) => 0,
+        Err(_) => 0,
     }
 }
 
-pub fn ticked(running: Running, answer: TickAnswer) -> Done
-    ensures { Amounts result (some (tick_says answer)) (reply_says running 0 (tick_count answer) (some (tick_says answer))) }
+pub fn ticked(running: Result<Running, Refusal>, answer: Result<TickAnswer, Refusal>) -> Done
+    ensures { Amounts result (Some (tick_says answer)) (reply_says running 0 (tick_count answer) (Some (tick_says answer))) }
 {
     Done {
         running,
@@ -290,8 +282,12 @@ pub fn ticked(running: Running, answer: TickAnswer) -> Done
     }
 }
 
-pub fn sent(running: Running, written: usize, answer: Written) -> Done
-    ensures { Amounts result (some (sent_says answer)) (reply_says running 0 written (some (sent_says answer))) }
+pub fn sent(
+    running: Result<Running, Refusal>,
+    written: usize,
+    answer: Result<usize, Refusal>,
+) -> Done
+    ensures { Amounts result (Some (sent_says answer)) (reply_says running 0 written (Some (sent_says answer))) }
 {
     Done {
         running,
@@ -301,8 +297,13 @@ pub fn sent(running: Running, written: usize, answer: Written) -> Done
     }
 }
 
-pub fn received(running: Running, consumed: usize, written: usize, answer: FrameAnswer) -> Done
-    ensures { Amounts result (some (answer_says answer)) (reply_says running consumed written (some (answer_says answer))) }
+pub fn received(
+    running: Result<Running, Refusal>,
+    consumed: usize,
+    written: usize,
+    answer: Result<FrameAnswer, Refusal>,
+) -> Done
+    ensures { Amounts result (Some (answer_says answer)) (reply_says running consumed written (Some (answer_says answer))) }
 {
     Done {
         running,
@@ -313,14 +314,14 @@ pub fn received(running: Running, consumed: usize, written: usize, answer: Frame
 }
 
 // What the error path came to: no call of the connection is told of.
-pub fn handled(running: Running, written: usize) -> Done
-    ensures { Amounts result none (reply_says running 0 written none) }
+pub fn handled(running: Result<Running, Refusal>, written: usize) -> Done
+    ensures { Amounts result None (reply_says running 0 written None) }
 {
     Done {
         running,
         consumed: 0,
         written,
-        inner: plain(KIND_NONE, 0),
+        inner: plain(Kind::NoCall, 0),
     }
 }
 
@@ -331,7 +332,7 @@ fn put_inner(inner: Inner, answer: &mut [u8])
     if answer.len() < 26 {
         return;
     }
-    put_number(answer, 2, 1, inner.kind as u64);
+    put_number(answer, 2, 1, inner.kind.number() as u64);
     put_number(answer, 3, 1, inner.detail as u64);
     put_number(answer, 4, 2, inner.channel as u64);
     put_number(answer, 6, 4, inner.number as u64);
@@ -373,8 +374,11 @@ pub fn finish(done: Done, engine: ConnectionEngine, state: &mut [u8], answer: &m
     ensures { Finishes done engine state.old answer.old result state.new answer.new }
 {
     let running = done.running;
-    match running {
-        Running::Refused(k) => k,
+    let going = match running {
+        Err(refusal) => return refusal.number(),
+        Ok(going) => going,
+    };
+    match going {
         Running::Continue => {
             lay(0, 0, done, engine, state, answer);
             0

@@ -3,23 +3,23 @@
 #![tactic(auto)]
 
 mod answers;
+mod kind;
 mod status;
 
 ghost use Rattle.std.specs.Prelude.{◌≡◌, not, ◌&&◌, [], ◌+◌, ◌*◌, ◌≤◌, leb, length};
-ghost use Rattle.std.proofs.Math.Option.{none, some};
 ghost use Rattle.layout.specs.Layout.{held};
-ghost use Rattle.frame_encoder.specs.Answers.{error_text, idle_said};
+ghost use Rattle.frame_encoder.specs.Answers.{error_text};
 ghost use Rattle.connection_model.specs.Connection as M;
 ghost use Rattle.engine_model.specs.Engine.{send_header, receive_header, send_open, incoming, close_order, allocate, deallocate, outgoing, tick, end_of_input, not_delivered};
-ghost use Rattle.hisproat.specs.Answers.{flagged, settings_of};
+ghost use Rattle.hisproat.specs.Answers.{flagged, settings_of, error_of};
 ghost use Rattle.hisproat.specs.Promises.{Starts, IsId};
 ghost use Rattle.hisproat.specs.Crossing.{crossing, Crosses, Makes};
 
 use answers::finish;
-use engine::{ConnectionEngine, NewEngine, ResumedEngine};
+use engine::ConnectionEngine;
 use engine_bytes::{FIXED_SIZE, ID};
-use frame_encoder::IdleTimeOut;
-use octets::number;
+use frame_encoder::{ErrorText, Settings};
+use octets::{Refusal, number};
 
 // How many bytes an event's answer has, what is told of an engine, and a handle.
 pub const ANSWER_SIZE: usize = 42;
@@ -28,10 +28,13 @@ pub const STATUS_SIZE: usize = 19;
 
 pub const HANDLE_SIZE: usize = 5;
 
-// The refusal of too little room, which is judged first and from lengths alone, and of bytes that stand for no engine.
-const NO_ROOM: u8 = 9;
+// C takes a number and no Result: 0, or one of `Refusal`'s. So each export tells here what it was
+// answered, and `?` stands in no export.
 
-const BROKEN: u8 = 8;
+// The refusal of too little room, which is judged first and from lengths alone, and of bytes that stand for no engine.
+const NO_ROOM: Refusal = Refusal::NoRoom;
+
+const BROKEN: Refusal = Refusal::OutOfBounds;
 
 // Whether an event's answer, or its output where so many bytes wait to be sent, is too short.
 fn lacks_room(answer: usize, output: usize, waiting: usize) -> bool
@@ -50,13 +53,21 @@ fn is_set(flag: u8) -> bool
     0 < flag
 }
 
-fn idle_of(has: u8, millis: u32) -> IdleTimeOut
-    ensures { idle_said result ≡ held (flagged has) millis }
+fn idle_of(has: u8, millis: u32) -> Option<u32>
+    ensures { result ≡ held (flagged has) millis }
 {
-    if is_set(has) {
-        return IdleTimeOut::Millis(millis);
+    is_set(has).then_some(millis)
+}
+
+// The text of an error as it is handed over.
+fn error_of<'a>(condition: &'a [u8], has_description: u8, description: &'a [u8]) -> ErrorText<'a>
+    ensures { error_text result ≡ error_of condition.now has_description description.now }
+{
+    let description = is_set(has_description).then_some(description);
+    ErrorText {
+        condition,
+        description,
     }
-    IdleTimeOut::Never
 }
 
 // The container-id in a state, no longer than there is room.
@@ -73,15 +84,15 @@ fn container_id(state: &[u8]) -> &[u8]
 }
 
 // Lays the fixed part of a new engine into the state, unless it was refused.
-fn started(new: NewEngine, container_id: &[u8], state: &mut [u8]) -> u8
+fn started(new: Result<ConnectionEngine, Refusal>, container_id: &[u8], state: &mut [u8]) -> u8
     ensures { Starts new container_id.now state.old result state.new }
 {
     match new {
-        NewEngine::Made(engine) => {
+        Ok(engine) => {
             engine_bytes::write_new(engine, container_id, state);
             0
         }
-        NewEngine::Refused(k) => k,
+        Err(refusal) => refusal.number(),
     }
 }
 
@@ -98,16 +109,15 @@ pub extern "C" fn hisproat_dialler(
     ensures { Makes M.dialler (settings_of container_id.now max_frame_size channel_max has_idle_time_out idle_time_out) state.old (record { returned = result; state = state.new }) }
 {
     if state.len() < FIXED_SIZE {
-        return BROKEN;
+        return BROKEN.number();
     }
-    let idle = idle_of(has_idle_time_out, idle_time_out);
-    let new = ConnectionEngine::dialler(
+    let settings = Settings {
         container_id,
         max_frame_size,
         channel_max,
-        idle,
-        &mut state[FIXED_SIZE..],
-    );
+        idle_time_out: idle_of(has_idle_time_out, idle_time_out),
+    };
+    let new = ConnectionEngine::dialler(&settings, &mut state[FIXED_SIZE..]);
     started(new, container_id, state)
 }
 
@@ -124,16 +134,15 @@ pub extern "C" fn hisproat_listener(
     ensures { Makes M.listener (settings_of container_id.now max_frame_size channel_max has_idle_time_out idle_time_out) state.old (record { returned = result; state = state.new }) }
 {
     if state.len() < FIXED_SIZE {
-        return BROKEN;
+        return BROKEN.number();
     }
-    let idle = idle_of(has_idle_time_out, idle_time_out);
-    let new = ConnectionEngine::listener(
+    let settings = Settings {
         container_id,
         max_frame_size,
         channel_max,
-        idle,
-        &mut state[FIXED_SIZE..],
-    );
+        idle_time_out: idle_of(has_idle_time_out, idle_time_out),
+    };
+    let new = ConnectionEngine::listener(&settings, &mut state[FIXED_SIZE..]);
     started(new, container_id, state)
 }
 
@@ -143,10 +152,10 @@ pub extern "C" fn hisproat_send_header(state: &mut [u8], output: &mut [u8], answ
     ensures { Crosses (send_header output.old) state.old answer.old (crossing result state.new answer.new output.new) }
 {
     if lacks_room(answer.len(), output.len(), 0) {
-        return NO_ROOM;
+        return NO_ROOM.number();
     }
-    let ResumedEngine::Is(engine) = engine_bytes::from_bytes(state) else {
-        return BROKEN;
+    let Some(engine) = engine_bytes::from_bytes(state) else {
+        return BROKEN.number();
     };
     let header = engine.send_header(output);
     let wrote = header.answer;
@@ -160,10 +169,10 @@ pub extern "C" fn hisproat_receive_header(state: &mut [u8], input: &[u8], answer
     ensures { Crosses (receive_header input.now) state.old answer.old (crossing result state.new answer.new []) }
 {
     if answer.len() < ANSWER_SIZE {
-        return NO_ROOM;
+        return NO_ROOM.number();
     }
-    let ResumedEngine::Is(engine) = engine_bytes::from_bytes(state) else {
-        return BROKEN;
+    let Some(engine) = engine_bytes::from_bytes(state) else {
+        return BROKEN.number();
     };
     let came = engine.receive_header(input);
     let answered = came.answer;
@@ -177,10 +186,10 @@ pub extern "C" fn hisproat_send_open(state: &mut [u8], output: &mut [u8], answer
     ensures { Crosses (send_open output.old) state.old answer.old (crossing result state.new answer.new output.new) }
 {
     if lacks_room(answer.len(), output.len(), 0) {
-        return NO_ROOM;
+        return NO_ROOM.number();
     }
-    let ResumedEngine::Is(engine) = engine_bytes::from_bytes(state) else {
-        return BROKEN;
+    let Some(engine) = engine_bytes::from_bytes(state) else {
+        return BROKEN.number();
     };
     let opening = engine.send_open(container_id(state), output);
     let opened = opening.answer;
@@ -201,10 +210,10 @@ pub extern "C" fn hisproat_on_incoming(
     ensures { Crosses (incoming frame.now spare waiting.now output.old) state.old answer.old (crossing result state.new answer.new output.new) }
 {
     if lacks_room(answer.len(), output.len(), waiting.len()) {
-        return NO_ROOM;
+        return NO_ROOM.number();
     }
-    let ResumedEngine::Is(engine) = engine_bytes::from_bytes(state) else {
-        return BROKEN;
+    let Some(engine) = engine_bytes::from_bytes(state) else {
+        return BROKEN.number();
     };
     let taken = engine.on_incoming(&mut state[FIXED_SIZE..], frame, spare, waiting, output);
     let running = taken.running;
@@ -222,13 +231,13 @@ pub extern "C" fn hisproat_on_close(
     output: &mut [u8],
     answer: &mut [u8],
 ) -> u8
-    ensures { Crosses (close_order none waiting.now output.old) state.old answer.old (crossing result state.new answer.new output.new) }
+    ensures { Crosses (close_order None waiting.now output.old) state.old answer.old (crossing result state.new answer.new output.new) }
 {
     if lacks_room(answer.len(), output.len(), waiting.len()) {
-        return NO_ROOM;
+        return NO_ROOM.number();
     }
-    let ResumedEngine::Is(engine) = engine_bytes::from_bytes(state) else {
-        return BROKEN;
+    let Some(engine) = engine_bytes::from_bytes(state) else {
+        return BROKEN.number();
     };
     let closing = engine.on_close(&mut state[FIXED_SIZE..], waiting, output);
     let running = closing.running;
@@ -249,22 +258,16 @@ pub extern "C" fn hisproat_on_close_with_error(
     output: &mut [u8],
     answer: &mut [u8],
 ) -> u8
-    ensures { Crosses (close_order (some (error_text condition.now (flagged has_description) description.now)) waiting.now output.old) state.old answer.old (crossing result state.new answer.new output.new) }
+    ensures { Crosses (close_order (Some (error_of condition.now has_description description.now)) waiting.now output.old) state.old answer.old (crossing result state.new answer.new output.new) }
 {
     if lacks_room(answer.len(), output.len(), waiting.len()) {
-        return NO_ROOM;
+        return NO_ROOM.number();
     }
-    let ResumedEngine::Is(engine) = engine_bytes::from_bytes(state) else {
-        return BROKEN;
+    let Some(engine) = engine_bytes::from_bytes(state) else {
+        return BROKEN.number();
     };
-    let order = engine.on_close_with_error(
-        &mut state[FIXED_SIZE..],
-        condition,
-        is_set(has_description),
-        description,
-        waiting,
-        output,
-    );
+    let error = error_of(condition, has_description, description);
+    let order = engine.on_close_with_error(&mut state[FIXED_SIZE..], &error, waiting, output);
     let running = order.running;
     let answered = order.answer;
     let after = order.engine;
@@ -278,10 +281,10 @@ pub extern "C" fn hisproat_on_allocate(state: &mut [u8], handle: u32, answer: &m
     ensures { Crosses (allocate handle) state.old answer.old (crossing result state.new answer.new []) }
 {
     if answer.len() < ANSWER_SIZE {
-        return NO_ROOM;
+        return NO_ROOM.number();
     }
-    let ResumedEngine::Is(engine) = engine_bytes::from_bytes(state) else {
-        return BROKEN;
+    let Some(engine) = engine_bytes::from_bytes(state) else {
+        return BROKEN.number();
     };
     let given = engine.on_allocate(&mut state[FIXED_SIZE..], handle);
     let running = given.running;
@@ -296,10 +299,10 @@ pub extern "C" fn hisproat_on_deallocate(state: &mut [u8], channel: u16, answer:
     ensures { Crosses (deallocate channel) state.old answer.old (crossing result state.new answer.new []) }
 {
     if answer.len() < ANSWER_SIZE {
-        return NO_ROOM;
+        return NO_ROOM.number();
     }
-    let ResumedEngine::Is(engine) = engine_bytes::from_bytes(state) else {
-        return BROKEN;
+    let Some(engine) = engine_bytes::from_bytes(state) else {
+        return BROKEN.number();
     };
     let freed = engine.on_deallocate(&mut state[FIXED_SIZE..], channel);
     let running = freed.running;
@@ -324,10 +327,10 @@ pub extern "C" fn hisproat_on_outgoing(
     ensures { Crosses (outgoing frame.now output.old) state.old answer.old (crossing result state.new answer.new output.new) }
 {
     if lacks_room(answer.len(), output.len(), 0) {
-        return NO_ROOM;
+        return NO_ROOM.number();
     }
-    let ResumedEngine::Is(engine) = engine_bytes::from_bytes(state) else {
-        return BROKEN;
+    let Some(engine) = engine_bytes::from_bytes(state) else {
+        return BROKEN.number();
     };
     let sent = engine.on_outgoing_session_frame(&mut state[FIXED_SIZE..], frame, output);
     let running = sent.running;
@@ -343,10 +346,10 @@ pub extern "C" fn hisproat_on_tick(state: &mut [u8], output: &mut [u8], answer: 
     ensures { Crosses (tick output.old) state.old answer.old (crossing result state.new answer.new output.new) }
 {
     if lacks_room(answer.len(), output.len(), 0) {
-        return NO_ROOM;
+        return NO_ROOM.number();
     }
-    let ResumedEngine::Is(engine) = engine_bytes::from_bytes(state) else {
-        return BROKEN;
+    let Some(engine) = engine_bytes::from_bytes(state) else {
+        return BROKEN.number();
     };
     let beat = engine.on_heartbeat(output);
     let running = beat.running;
@@ -365,10 +368,10 @@ pub extern "C" fn hisproat_on_end_of_input(
     ensures { Crosses (end_of_input output.old) state.old answer.old (crossing result state.new answer.new output.new) }
 {
     if lacks_room(answer.len(), output.len(), 0) {
-        return NO_ROOM;
+        return NO_ROOM.number();
     }
-    let ResumedEngine::Is(engine) = engine_bytes::from_bytes(state) else {
-        return BROKEN;
+    let Some(engine) = engine_bytes::from_bytes(state) else {
+        return BROKEN.number();
     };
     let ended = engine.on_end_of_input(output);
     let running = ended.running;
@@ -388,10 +391,10 @@ pub extern "C" fn hisproat_on_not_delivered(
     ensures { Crosses (not_delivered (flagged new_session) output.old) state.old answer.old (crossing result state.new answer.new output.new) }
 {
     if lacks_room(answer.len(), output.len(), 0) {
-        return NO_ROOM;
+        return NO_ROOM.number();
     }
-    let ResumedEngine::Is(engine) = engine_bytes::from_bytes(state) else {
-        return BROKEN;
+    let Some(engine) = engine_bytes::from_bytes(state) else {
+        return BROKEN.number();
     };
     let told = engine.on_not_delivered(is_set(new_session), output);
     let running = told.running;

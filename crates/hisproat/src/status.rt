@@ -2,46 +2,46 @@
 ghost use Rattle.std.specs.Prelude.{◌≡◌, List, ℕ};
 ghost use Rattle.octets.specs.Octets.{put};
 ghost use Rattle.layout.specs.Layout.{may};
-ghost use Rattle.channels.specs.Channels.{agreed_max_says};
-ghost use Rattle.connection.specs.View.{handle_says};
+ghost use Rattle.octets.specs.Refusal.{judged};
 ghost use Rattle.engine.specs.Answers.{whole};
 ghost use Rattle.hisproat.specs.Answers.{status_bytes, taken_bytes, tied_bytes};
 ghost use Rattle.hisproat.specs.Promises.{PutsHandle, PutsStatus};
 ghost use Rattle.hisproat.specs.Crossing.{Reports};
 
 use crate::{BROKEN, HANDLE_SIZE, NO_ROOM, STATUS_SIZE};
-use channels::AgreedMax;
-use connection::HandleAnswer;
-use engine::{ConnectionEngine, ResumedEngine};
+use engine::ConnectionEngine;
 use engine_bytes::FIXED_SIZE;
 use engine_bytes::numbers::{put_phase, role_number};
 use layout::put_may;
-use octets::put_number;
+use octets::{Refusal, put_number};
 
 // Lays a handle that was looked up into the answer, or tells the refusal.
-fn put_handle(found: HandleAnswer, answer: &mut [u8]) -> u8
-    ensures { PutsHandle (handle_says found) answer.old result answer.new }
+fn put_handle(found: Result<Option<u32>, Refusal>, answer: &mut [u8]) -> u8
+    ensures { PutsHandle (judged found) answer.old result answer.new }
 {
-    match found {
-        HandleAnswer::Handle(handle) => {
-            put_may(answer, 0, 4, true, handle as u64);
+    let held = match found {
+        Err(refusal) => return refusal.number(),
+        Ok(held) => held,
+    };
+    match held {
+        Some(handle) => {
+            put_may(answer, 0, 4, Some(u64::from(handle)));
             0
         }
-        HandleAnswer::Nothing => {
-            put_may(answer, 0, 4, false, 0);
+        None => {
+            put_may(answer, 0, 4, None);
             0
         }
-        HandleAnswer::Refused(k) => k,
     }
 }
 
 // Lays the agreed channel-max into the answer.
-fn put_agreed(agreed: AgreedMax, answer: &mut [u8])
-    ensures { answer.new ≡ put answer.old 12 (may 2 (agreed_max_says agreed)) }
+fn put_agreed(agreed: Option<u16>, answer: &mut [u8])
+    ensures { answer.new ≡ put answer.old 12 (may 2 agreed) }
 {
     match agreed {
-        AgreedMax::Is(highest) => put_may(answer, 12, 2, true, highest as u64),
-        AgreedMax::Absent => put_may(answer, 12, 2, false, 0),
+        Some(highest) => put_may(answer, 12, 2, Some(u64::from(highest))),
+        None => put_may(answer, 12, 2, None),
     }
 }
 
@@ -69,10 +69,10 @@ pub extern "C" fn hisproat_status(state: &[u8], answer: &mut [u8]) -> u8
     ensures { Reports 19 status_bytes state.now answer.old (record { returned = result; answer = answer.new }) }
 {
     if answer.len() < STATUS_SIZE {
-        return NO_ROOM;
+        return NO_ROOM.number();
     }
-    let ResumedEngine::Is(engine) = engine_bytes::from_bytes(state) else {
-        return BROKEN;
+    let Some(engine) = engine_bytes::from_bytes(state) else {
+        return BROKEN.number();
     };
     put_status(engine, answer);
     0
@@ -84,10 +84,10 @@ pub extern "C" fn hisproat_handle_at(state: &[u8], channel: u16, answer: &mut [u
     ensures { Reports 5 (taken_bytes channel) state.now answer.old (record { returned = result; answer = answer.new }) }
 {
     if answer.len() < HANDLE_SIZE {
-        return NO_ROOM;
+        return NO_ROOM.number();
     }
-    let ResumedEngine::Is(engine) = engine_bytes::from_bytes(state) else {
-        return BROKEN;
+    let Some(engine) = engine_bytes::from_bytes(state) else {
+        return BROKEN.number();
     };
     let connection = engine.connection();
     put_handle(connection.handle_at(&state[FIXED_SIZE..], channel), answer)
@@ -99,10 +99,10 @@ pub extern "C" fn hisproat_tied_handle(state: &[u8], channel: u16, answer: &mut 
     ensures { Reports 5 (tied_bytes channel) state.now answer.old (record { returned = result; answer = answer.new }) }
 {
     if answer.len() < HANDLE_SIZE {
-        return NO_ROOM;
+        return NO_ROOM.number();
     }
-    let ResumedEngine::Is(engine) = engine_bytes::from_bytes(state) else {
-        return BROKEN;
+    let Some(engine) = engine_bytes::from_bytes(state) else {
+        return BROKEN.number();
     };
     let connection = engine.connection();
     put_handle(

@@ -1,16 +1,18 @@
 -- Laws of a number as bytes, and what each step of `put_may` shows, with the facts as they come.
 -- Assumes nothing.
 use mathlib.Core.Path.{◌≡◌, refl, sym, ◌∙◌, ap}
-use mathlib.Core.Bool.{Bool, true, false}
+use mathlib.Core.Bool.{Bool}
 use mathlib.Core.List.{List, [], ◌∷◌}
-use mathlib.Core.Option.{Option, none, some}
+use Rattle.std.specs.Prelude.{Option, None, Some}
+use Rattle.std.specs.Option.{is_some, unwrap_or}
+use mir.Val.{bool_byte}
 use Prim.Native.Nat.{ℕ, zero, suc, ◌+◌, ◌*◌, ◌-◌, ◌/◌, ◌%◌, ◌^◌, ◌≤◌, ◌<◌}
 use native.Mathlib.Nat.{div-one, div-div-eq-div-mul, div-add-mod', div-eq_of_lt, pow-suc}
 use native.Mathlib.Omega.{arith}
 use lib.ListN.{length}
 use Rattle.octets.specs.Octets.{big_endian_from, big_endian, bytes_of, put}
 use Rattle.octets.proofs.Laws.{length_bytes_of, put_over, put_more}
-use Rattle.layout.specs.Layout.{may, held}
+use Rattle.layout.specs.Layout.{may}
 
 -- ---- numbers as bytes
 
@@ -28,8 +30,8 @@ unfolding big_endian
 bytes_number w x h = ap (λ (n : ℕ). big_endian_from n (bytes_of w x)) (sym (div-eq_of_lt h)) ∙ bytes_from w x
 
 pub length_may : (w : ℕ) (o : Option ℕ) → length (may w o) ≡ suc w
-length_may w none = ap suc (length_bytes_of w 0)
-length_may w (some n) = ap suc (length_bytes_of w n)
+length_may w None = ap suc (length_bytes_of w 0)
+length_may w (Some n) = ap suc (length_bytes_of w n)
 
 -- ---- put_may
 
@@ -37,11 +39,13 @@ module _ (d : List ℕ) (at w : ℕ) (past : at ≤ length d) where
   pub may_over : (o : Option ℕ) → length d - at ≤ w → d ≡ put d at (may w o)
   may_over o h = put_over d at (may w o) (suc w) (sym (length_may w o)) (omega arith) past
 
-  module _ (room : w < length d - at) (b : Bool) (x : ℕ) (o o' : List ℕ) where
-    pub may_there : b ≡ true → o ≡ put d at (bytes_of 1 1) → o' ≡ put o (at + 1) (bytes_of w x) → o' ≡ put d at (may w (held b x))
-    unfolding bytes_of
-    may_there e p q = rw e (put_more (1 ∷ []) (bytes_of w x) d o o' at (at + 1) refl (omega (arith, length_bytes_of w x)) p q)
-
-    pub may_absent : b ≡ false → o ≡ put d at (bytes_of 1 0) → o' ≡ put o (at + 1) (bytes_of w 0) → o' ≡ put d at (may w (held b x))
-    unfolding bytes_of
-    may_absent e p q = rw e (put_more (0 ∷ []) (bytes_of w 0) d o o' at (at + 1) refl (omega (arith, length_bytes_of w 0)) p q)
+  pub may_laid :
+      (x : Option ℕ) (b : Bool) (k n : ℕ) (o o' : List ℕ) → w < length d - at → b ≡ is_some x → k ≡ bool_byte b → n ≡ unwrap_or x 0
+      → o ≡ put d at (bytes_of 1 k) → o' ≡ put o (at + 1) (bytes_of w n) → o' ≡ put d at (may w x)
+  unfolding bytes_of
+  may_laid None b k n o o' room e f g p q =
+      let z : k ≡ 0 = f ∙ rw e in
+      put_more (0 ∷ []) (bytes_of w 0) d o o' at (at + 1) refl (omega (arith, length_bytes_of w 0)) (rw z at p) (rw g at q)
+  may_laid (Some x) b k n o o' room e f g p q =
+      let z : k ≡ 1 = f ∙ rw e in
+      put_more (1 ∷ []) (bytes_of w x) d o o' at (at + 1) refl (omega (arith, length_bytes_of w x)) (rw z at p) (rw g at q)

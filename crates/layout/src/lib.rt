@@ -3,13 +3,13 @@
 
 ghost use Rattle.std.specs.Prelude.{◌≡◌};
 ghost use Rattle.octets.specs.Octets.{put};
-ghost use Rattle.layout.specs.Layout.{may, held};
+ghost use Rattle.layout.specs.Layout.{may};
 
 use octets::put_number;
 
 // Lays a number of w bytes that may be absent into the buffer at a place, if it fits there.
-pub fn put_may(out: &mut [u8], at: usize, w: usize, there: bool, x: u64)
-    ensures { out.new ≡ put out.old at (may w (held there x)) }
+pub fn put_may(out: &mut [u8], at: usize, w: usize, x: Option<u64>)
+    ensures { out.new ≡ put out.old at (may w x) }
 {
     if out.len() < at {
         return;
@@ -17,11 +17,6 @@ pub fn put_may(out: &mut [u8], at: usize, w: usize, there: bool, x: u64)
     if out.len() - at <= w {
         return;
     }
-    if there {
-        put_number(out, at, 1, 1);
-        put_number(out, at + 1, w, x);
-        return;
-    }
-    put_number(out, at, 1, 0);
-    put_number(out, at + 1, w, 0);
+    put_number(out, at, 1, u64::from(x.is_some()));
+    put_number(out, at + 1, w, x.unwrap_or(0));
 }

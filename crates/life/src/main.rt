@@ -7,83 +7,42 @@
 // Every call has a line of output: whose it is, the call, the state afterwards, what it was lent, and the answer.
 #![tactic(auto)]
 
-mod calls;
-mod rows;
+mod answers;
+mod call;
+mod lent;
+mod side;
 
-use connection::{Connection, NewConnection};
-use frame_encoder::IdleTimeOut;
+use side::Side;
 use std::io::{self, Read};
-use words::part;
 
-fn title(rt: &impl Print, line: &[u8]) -> io::Result<()> {
-    rows::print(rt, line)?;
-    rows::print(rt, b"\n")
-}
+// How many bytes of a script are read.
+const MOST: u64 = 65536;
 
 // The calls of a script, whose lines each end with a newline.
-fn play(
-    rt: &impl Print,
-    script: &[u8],
-    nameless: Connection,
-    other: Connection,
-    pad_tables: &mut [u8],
-    hub_tables: &mut [u8],
-    pad_out: &mut [u8],
-    hub_out: &mut [u8],
-) -> io::Result<()> {
-    let mut pad = nameless;
-    let mut hub = other;
-    let mut at: usize = 0;
-    while at < script.len() {
-        let end = words::find(script, at, b'\n');
-        if script.len() <= end {
-            return Ok(());
-        }
-        let line = part(script, at, end);
-        at = end + 1;
-        match calls::at(line, 0) {
-            b'p' => pad = calls::call(rt, pad, line, pad_tables, pad_out, hub_out)?,
-            b'h' => hub = calls::call(rt, hub, line, hub_tables, hub_out, pad_out)?,
-            _ => title(rt, line)?,
+fn play(rt: &(impl Print + AllocGlobal), script: &[u8]) -> io::Result<()> {
+    let Some(mut pad) = Side::new(rt.alloc())? else {
+        return Ok(());
+    };
+    let Some(mut hub) = Side::new(rt.alloc())? else {
+        return Ok(());
+    };
+    for ended in script.split_inclusive(|b| *b == b'\n') {
+        let Some(line) = ended.strip_suffix(b"\n") else {
+            break;
+        };
+        match line.first() {
+            Some(b'p') => pad.call(rt, line, &hub)?,
+            Some(b'h') => hub.call(rt, line, &pad)?,
+            // a title, as bytes, since it need be no text
+            _ => rt.write_all(ended)?,
         }
     }
     Ok(())
 }
 
-// Before a script's first calls there is a dialler with no name on both sides.
-fn nameless(tables: &mut [u8]) -> NewConnection {
-    Connection::dialler(b"", 512, 0, IdleTimeOut::Never, tables)
-}
-
-fn start(rt: &impl Print, script: &[u8]) -> io::Result<()> {
-    let mut pad_tables = [0u8; 65536];
-    let mut hub_tables = [0u8; 65536];
-    let NewConnection::Made(pad) = nameless(&mut pad_tables) else {
-        return Ok(());
-    };
-    let NewConnection::Made(hub) = nameless(&mut hub_tables) else {
-        return Ok(());
-    };
-    let mut pad_out = [0u8; 65536];
-    let mut hub_out = [0u8; 65536];
-    play(
-        rt,
-        script,
-        pad,
-        hub,
-        &mut pad_tables,
-        &mut hub_tables,
-        &mut pad_out,
-        &mut hub_out,
-    )
-}
-
 fn main(rt: HostRuntime) -> io::Result<()> {
-    let mut script = [0u8; 65536];
-    let n = io::copy(&mut rt.stdin().take(65536), &mut &mut script[..])? as usize;
-    rows::print(
-        &rt,
-        b"side  call                    state after     lent: answer\n",
-    )?;
-    start(&rt, part(&script, 0, n))
+    let mut script = Vec::new(rt.alloc());
+    rt.stdin().take(MOST).read_to_end(&mut script)?;
+    println!(rt; "side  call                    state after     lent: answer")?;
+    play(&rt, &script)
 }

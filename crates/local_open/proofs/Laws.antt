@@ -5,13 +5,16 @@ use mathlib.Core.Bool.{Bool, true, false}
 use mathlib.Core.List.{List}
 use Prim.Native.Nat.{ℕ}
 use native.Mathlib.Omega.{arith}
+use Rattle.std.specs.Prelude.{Result, Ok, Err}
 use Rattle.octets.specs.Verdict.{Verdict, refuse, accept}
+use Rattle.octets.specs.Refusal.{number_of}
+use Rattle.octets.specs.declared.Refusal.{Refusal}
+use Rattle.octets.specs.declared.Refusal.TheVariants.{OutOfBounds}
 use Rattle.octets.proofs.Laws.{require_on, require_off}
+use Rattle.octets.proofs.Refusals.{same_refusal}
 use Rattle.frame_encoder.specs.Frames.{Settings}
 use Rattle.frame_encoder.proofs.Laws.{Within, settings_within}
 use Rattle.local_open.specs.declared.LocalOpen.{LocalOpen}
-use Rattle.local_open.specs.declared.NewOpen.{NewOpen}
-use Rattle.local_open.specs.declared.NewOpen.TheVariants.{Taken, Refused}
 use Rattle.local_open.specs.Settings.{allowed, checked, open_says, new_says}
 
 pub allowed_within : (S : Settings) → allowed S ≡ true → Within S.container_id S.max_frame_size S.channel_max
@@ -28,34 +31,34 @@ module _ (S : Settings) (b : Bool) (ok : b ≡ allowed S) where
 
 -- ---- what an answer says
 
-module _ (id : List ℕ) (S : Settings) (r : NewOpen) (says : new_says id r ≡ checked S) where
-  taken_both : (o : LocalOpen) (b : Bool) → allowed S ≡ b → r ≡ Taken o → (b ≡ true) × (open_says id o ≡ S)
+module _ (id : List ℕ) (S : Settings) (r : Result LocalOpen Refusal) (says : new_says id r ≡ checked S) where
+  taken_both : (o : LocalOpen) (b : Bool) → allowed S ≡ b → r ≡ Ok o → (b ≡ true) × (open_says id o ≡ S)
   taken_both o true e q = let a : accept (open_says id o) ≡ accept S = sym (ap (new_says id) q) ∙ says ∙ require_on 8 _ _ e in (refl, cc)
   taken_both o false e q =
       let a : accept (open_says id o) ≡ refuse 8 = sym (ap (new_says id) q) ∙ says ∙ require_off 8 _ _ e in
       let z : ◌≡◌ {A = ℕ} 0 1 = cc in
       absurd (omega arith)
 
-  refused_both : (k : ℕ) (b : Bool) → allowed S ≡ b → r ≡ Refused k → (b ≡ false) × (k ≡ 8)
+  refused_both : (k : Refusal) (b : Bool) → allowed S ≡ b → r ≡ Err k → (b ≡ false) × (k ≡ OutOfBounds)
   refused_both k true e q =
-      let a : refuse k ≡ accept S = sym (ap (new_says id) q) ∙ says ∙ require_on 8 _ _ e in
+      let a : refuse (number_of k) ≡ accept S = sym (ap (new_says id) q) ∙ says ∙ require_on 8 _ _ e in
       let z : ◌≡◌ {A = ℕ} 0 1 = cc in
       absurd (omega arith)
-  refused_both k false e q = let a : ◌≡◌ {A = Verdict Settings} (refuse k) (refuse 8) = sym (ap (new_says id) q) ∙ says ∙ require_off 8 _ _ e in (refl, cc)
+  refused_both k false e q = let a : ◌≡◌ {A = Verdict Settings} (refuse (number_of k)) (refuse 8) = sym (ap (new_says id) q) ∙ says ∙ require_off 8 _ _ e in (refl, same_refusal k OutOfBounds (cc))
 
   -- settings that are taken are within their limits, and kept as they are
-  pub taken_allowed : (o : LocalOpen) → r ≡ Taken o → allowed S ≡ true
+  pub taken_allowed : (o : LocalOpen) → r ≡ Ok o → allowed S ≡ true
   taken_allowed o q = (taken_both o (allowed S) refl q).0
 
-  pub taken_says_is : (o : LocalOpen) → r ≡ Taken o → open_says id o ≡ S
+  pub taken_says_is : (o : LocalOpen) → r ≡ Ok o → open_says id o ≡ S
   taken_says_is o q = (taken_both o (allowed S) refl q).1
 
-  pub taken_within : (o : LocalOpen) → r ≡ Taken o → Within id o.max_frame_size o.channel_max
+  pub taken_within : (o : LocalOpen) → r ≡ Ok o → Within id o.max_frame_size o.channel_max
   taken_within o q = allowed_within (open_says id o) (ap allowed (taken_says_is o q) ∙ taken_allowed o q)
 
   -- those that are refused are beyond them
-  pub refused_beyond : (k : ℕ) → r ≡ Refused k → allowed S ≡ false
+  pub refused_beyond : (k : Refusal) → r ≡ Err k → allowed S ≡ false
   refused_beyond k q = (refused_both k (allowed S) refl q).0
 
-  pub refused_eight : (k : ℕ) → r ≡ Refused k → k ≡ 8
+  pub refused_eight : (k : Refusal) → r ≡ Err k → k ≡ OutOfBounds
   refused_eight k q = (refused_both k (allowed S) refl q).1

@@ -12,8 +12,10 @@ use lib.Dec.{leb}
 use borrow.Author.Tests.{le-leb, lt-leb, leb-true, leb-false}
 use Rattle.octets.specs.Verdict.{Verdict, refuse, accept, require, and_then}
 use Rattle.octets.specs.Octets.{big_endian_from, big_endian, bytes_of, put}
-use Rattle.octets.specs.Output.{room_for, laid, counted, written, Wrote}
-use Rattle.octets.specs.declared.Written.TheVariants.{Bytes, Refused}
+use Rattle.std.specs.Prelude.{Ok, Err}
+use Rattle.octets.specs.Refusal.{number_of}
+use Rattle.octets.specs.declared.Refusal.{Refusal}
+use Rattle.octets.specs.Output.{room_for, laid, counted, Wrote}
 
 -- ---- verdicts
 
@@ -145,12 +147,12 @@ put_before d at b vs h =
 pub put_front : (d vs : List ℕ) → length vs ≤ length d → put d 0 vs ≡ vs ++ drop (length vs) d
 put_front d vs h = put_fits d 0 vs (omega arith) ∙ ap (λ (n : ℕ). vs ++ drop n d) (zero-add (length vs))
 
-pub wrote_no : (v : Verdict (List ℕ)) (k : ℕ) (d : List ℕ) → v ≡ refuse k → Wrote v (Refused k) d d
-unfolding written counted laid
-wrote_no v k d e = record { answer = rw e; output = rw e }
+pub wrote_no : (v : Verdict (List ℕ)) (r : Refusal) (d : List ℕ) → v ≡ refuse (number_of r) → Wrote v (Err r) d d
+unfolding counted laid
+wrote_no v r d e = record { answer = rw e; output = rw e }
 
-pub wrote_yes : (v : Verdict (List ℕ)) (bytes : List ℕ) (n : ℕ) (d o : List ℕ) → v ≡ accept bytes → n ≡ length bytes → n ≤ length d → o ≡ put d 0 bytes → Wrote v (Bytes n) d o
-unfolding written counted laid
+pub wrote_yes : (v : Verdict (List ℕ)) (bytes : List ℕ) (n : ℕ) (d o : List ℕ) → v ≡ accept bytes → n ≡ length bytes → n ≤ length d → o ≡ put d 0 bytes → Wrote v (Ok n) d o
+unfolding counted laid
 wrote_yes v bytes n d o e l h q = record { answer = rw (e, l); output = rw e (q ∙ put_front d bytes (omega arith)) }
 
 pub room_yes : (lent : ℕ) (out : List ℕ) → 16384 + 2 * lent ≤ length out → room_for lent out ≡ true

@@ -2,7 +2,7 @@
 -- Assumes nothing.
 use mathlib.Core.Path.{◌≡◌, refl, sym, ap, ◌∙◌}
 use mathlib.Core.List.{List}
-use Prim.Native.Nat.{ℕ, zero, suc, ◌+◌, ◌*◌, ◌-◌, ◌/◌, ◌%◌, ◌^◌, ◌<◌, ◌≤◌}
+use Prim.Native.Nat.{ℕ, suc, ◌+◌, ◌*◌, ◌-◌, ◌/◌, ◌%◌, ◌^◌, ◌<◌, ◌≤◌}
 use native.Mathlib.Nat.{mul-add, div-one, div-div-eq-div-mul, pow-suc}
 use native.Mathlib.Numerals.{add-one}
 use native.Mathlib.Omega.{arith}
@@ -16,7 +16,7 @@ use Rattle.octets.proofs.Laws.{be_snoc, put_fits, put_over, put_nothing, put_bef
 
 -- ---- number
 
-module _ (x i : ℕ) (few : i ≤ 8) (more : i ≡ 8 → ⊥) (low : x < 2 ^ (8 * i)) where
+module _ (x i : ℕ) (few : i < 8) (low : x < 2 ^ (8 * i)) where
   low_56 : x < 2 ^ 56
   low_56 = let p : 2 ^ (8 * i) ≤ 2 ^ 56 = pow_mono {i = 8 * i} {j = 56} (omega arith) in omega arith
 
@@ -56,30 +56,28 @@ number_over d at w x h k = put_over d at (bytes_of w x) w (sym (length_bytes_of 
 abbrev pub Laid : List ℕ → ℕ → ℕ → ℕ → List ℕ → ℕ → ℕ → Type 0
 Laid d at w x out left y = (left ≤ w) × (length out ≡ length d) × (out ≡ put d (at + left) (bytes_of (w - left) x)) × (y ≡ x / 256 ^ (w - left))
 
-pub laid_none : (d : List ℕ) (at w x : ℕ) → Laid d at w x d w x
+pub laid_none : (d : List ℕ) (at w x left : ℕ) → left ≡ w → Laid d at w x d left x
 unfolding bytes_of
-laid_none d at w x =
+laid_none d at w x left e =
     let z : w - w ≡ 0 = omega arith in
-    rw z (omega arith, refl, sym (put_nothing d (at + w)), sym (div-one x))
+    rw (e, z) (omega arith, refl, sym (put_nothing d (at + w)), sym (div-one x))
 
-pub laid_more : (d : List ℕ) (at w x : ℕ) (out : List ℕ) (left y : ℕ) → at ≤ length d → w ≤ length d - at → 0 < left → Laid d at w x out left y → Laid d at w x (set out (at + (left - 1)) (y % 256)) (left - 1) (y / 256)
+laid_next : (d : List ℕ) (at w x : ℕ) (out : List ℕ) (left y : ℕ) → at + w ≤ length d → Laid d at w x out (suc left) y → Laid d at w x (set out (at + left) (y % 256)) left (y / 256)
 unfolding bytes_of
-laid_more d at w x out zero y past room h inv = absurd (omega arith)
-laid_more d at w x out (suc left) y past room h inv =
-    let p : suc left - 1 ≡ left = omega arith in
+laid_next d at w x out left y fits inv =
     let q : w - left ≡ suc (w - suc left) = omega arith in
     let a : at + suc left ≡ suc (at + left) = omega arith in
     let v : x / 256 ^ (w - suc left) / 256 ≡ x / 256 ^ suc (w - suc left) = div-div-eq-div-mul x (256 ^ (w - suc left)) 256 ∙ ap (λ (n : ℕ). x / n) (sym (pow-suc 256 (w - suc left))) in
     let o : set out (at + left) (y % 256) ≡ put d (at + left) (bytes_of (suc (w - suc left)) x) =
     rw (inv.2, inv.3, a) (put_before d (at + left) _ (bytes_of (w - suc left) x) (omega (arith, length_bytes_of (w - suc left) x))) in
-    rw (p, q) (omega arith, length-set out (at + left) (y % 256) ∙ inv.1, o, rw inv.3 v)
+    rw q (omega arith, length-set out (at + left) (y % 256) ∙ inv.1, o, rw inv.3 v)
 
-pub laid_all : (d : List ℕ) (at w x : ℕ) (out : List ℕ) (left y : ℕ) → left ≤ 0 → Laid d at w x out left y → out ≡ put d at (bytes_of w x)
-laid_all d at w x out left y h inv =
-    let z : left ≡ 0 = omega arith in
-    let a : at + 0 ≡ at = omega arith in
-    let b : w - 0 ≡ w = omega arith in
-    inv.2 ∙ rw (z, a, b)
+-- the same, where the place is known as a number
+pub laid_more : (d : List ℕ) (at w x : ℕ) (out : List ℕ) (i y : ℕ) → w ≤ length d - at → at ≤ length d → at < i → Laid d at w x out (i - at) y → Laid d at w x (set out (i - 1) (y % 256)) (i - 1 - at) (y / 256)
+laid_more d at w x out i y room past h inv = go (i - 1) (i - 1 - at) (omega arith) (omega arith)
+  where
+    go : (place left : ℕ) → place ≡ at + left → i - at ≡ suc left → Laid d at w x (set out place (y % 256)) left (y / 256)
+    go place left p e = rw p (laid_next d at w x out left y (omega arith) (rw e at inv))
 
 -- ---- copy
 

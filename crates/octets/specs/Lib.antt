@@ -1,3 +1,4 @@
 pub mod Verdict
+pub mod Refusal
 pub mod Octets
 pub mod Output

@@ -1,9 +1,9 @@
 -- What a call that may write does to its lent output. A rule for such a call is a verdict on bytes: it refuses, or accepts with the bytes to be written.
 -- Assumes nothing: these are definitions.
-use Rattle.std.specs.Prelude.{ℕ, ◌+◌, ◌*◌, ◌≡◌, Bool, List, ◌++◌, length, drop, leb}
+use Rattle.std.specs.Prelude.{ℕ, ◌+◌, ◌*◌, ◌≡◌, Bool, List, ◌++◌, length, drop, leb, Result}
 use Rattle.octets.specs.Verdict.{Verdict, refuse, accept}
-use Rattle.octets.specs.declared.Written.{Written}
-use Rattle.octets.specs.declared.Written.TheVariants.{Bytes, Refused}
+use Rattle.octets.specs.Refusal.{judged}
+use Rattle.octets.specs.declared.Refusal.{Refusal}
 
 -- refusal 9: the output must have 16,384 bytes, and two for each byte of the slice of session frames that wait
 unfoldable pub room_for : ℕ → List ℕ → Bool
@@ -19,12 +19,7 @@ unfoldable pub counted : Verdict (List ℕ) → Verdict ℕ
 counted (refuse k) = refuse k
 counted (accept bytes) = accept (length bytes)
 
--- what each case of the answer says
-unfoldable pub written : Written → Verdict ℕ
-written (Bytes n) = accept n
-written (Refused k) = refuse k
-
 -- a call answers r and leaves `after` where `before` stood, as the rule v has it
-pub record Wrote (v : Verdict (List ℕ)) (r : Written) (before after : List ℕ) : Type 0 where
-  pub answer : written r ≡ counted v
+pub record Wrote (v : Verdict (List ℕ)) (r : Result ℕ Refusal) (before after : List ℕ) : Type 0 where
+  pub answer : judged r ≡ counted v
   pub output : after ≡ laid v before

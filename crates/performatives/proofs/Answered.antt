@@ -3,7 +3,7 @@
 use mathlib.Core.Path.{◌≡◌, refl, sym, ap, ◌∙◌, subst}
 use mathlib.Core.Bool.{Bool, true, false, cond, not}
 use mathlib.Core.List.{List, [], ◌∷◌}
-use mathlib.Core.Option.{some}
+use Rattle.std.specs.Prelude.{Some}
 use Prim.Native.Nat.{ℕ, zero, suc, ◌+◌, ◌-◌, ◌≤◌}
 use native.Mathlib.Omega.{arith}
 use lib.ListN.{length, take, drop, get_or, length-drop}
@@ -12,12 +12,12 @@ use Rattle.octets.specs.Verdict.{refuse, accept}
 use Rattle.octets.specs.Octets.{starts_with}
 use Rattle.octets.proofs.Laws.{require_was}
 use Rattle.values.specs.Value.{codes, kind_in, kind_of, level, run, value_end}
-use Rattle.values.specs.Null.{null, is_null}
+use Rattle.values.specs.Null.{null, is_null, or_null}
 use Rattle.values.proofs.Apart.{accepted, then_was}
 use Rattle.values.proofs.Laws.{value_within, value_some}
 use Rattle.performatives.specs.Fields.{UShort, UInt, Field, field_in}
 use Rattle.performatives.specs.Performative.{has_type, fits, fit, split, fields_by, start_of}
-use Rattle.performatives.specs.Inner.{next, skip, item, or_null, value_at}
+use Rattle.performatives.specs.Inner.{next, skip, item, value_at}
 use Rattle.performatives.proofs.Bools.{and_first, and_second}
 use Rattle.performatives.proofs.Codes.{narrow, width_below, narrow_ends}
 use Rattle.performatives.proofs.Found.{skip_front, item_front}
@@ -125,7 +125,7 @@ found_value (suc i) (suc k) s fs e =
 
 -- ---- a field has the type of its row
 
-pub fit_at : (rows : List Field) (fs : List (List ℕ)) (i : ℕ) (r : Field) → fit rows fs ≡ true → field_in rows i ≡ some r → fits r.type r.mandatory (get_or fs i null) ≡ true
+pub fit_at : (rows : List Field) (fs : List (List ℕ)) (i : ℕ) (r : Field) → fit rows fs ≡ true → field_in rows i ≡ Some r → fits r.type r.mandatory (get_or fs i null) ≡ true
 unfolding fit field_in
 fit_at [] fs i r h e = let z : ◌≡◌ {A = ℕ} 0 1 = cc in absurd (omega arith)
 fit_at (x ∷ rows) [] zero r h e =

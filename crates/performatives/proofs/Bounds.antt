@@ -3,7 +3,7 @@
 use mathlib.Core.Path.{◌≡◌, refl, sym, ◌∙◌}
 use mathlib.Core.Bool.{Bool, true, false, cond, ◌&&◌}
 use mathlib.Core.List.{List, [], ◌∷◌}
-use mathlib.Core.Option.{Option, none, some}
+use Rattle.std.specs.Prelude.{Option, None, Some}
 use Prim.Native.Nat.{ℕ, zero, suc, ◌+◌, ◌≤◌}
 use native.Mathlib.Omega.{arith}
 use lib.ListN.{length, take, drop, length-drop}
@@ -144,8 +144,8 @@ fields_six rows count s = six_then (split 16 count s) _ (split_six count s) (λ 
 
 rows_six : (o : Option (List Field)) → Six (rows_for o)
 unfolding rows_for
-rows_six none = six_refuse
-rows_six (some rows) = six_accept rows
+rows_six None = six_refuse
+rows_six (Some rows) = six_accept rows
 
 pub performative_six : (s : List ℕ) → Six (performative s)
 unfolding performative performative_by

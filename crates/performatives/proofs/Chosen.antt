@@ -3,7 +3,7 @@
 use mathlib.Core.Path.{◌≡◌, refl, sym, ap, ◌∙◌, subst}
 use mathlib.Core.Bool.{true, false}
 use mathlib.Core.List.{List, [], ◌∷◌}
-use mathlib.Core.Option.{Option, none, some}
+use Rattle.std.specs.Prelude.{Option, None, Some}
 use Prim.Native.Nat.{ℕ, ◌+◌, ◌-◌, ◌^◌, ◌<◌, ◌≤◌}
 use native.Mathlib.Omega.{arith}
 use lib.ListN.{length, take, drop, get_or}
@@ -12,14 +12,10 @@ use Rattle.octets.specs.Verdict.{Verdict, refuse, accept, and_then, accepts}
 use Rattle.values.specs.Null.{null, is_null}
 use Rattle.values.proofs.Apart.{accepted, then_was}
 use Rattle.performatives.specs.declared.Performative as C
-use Rattle.performatives.specs.declared.Described as D
-use Rattle.performatives.specs.declared.Described.TheVariants.{List as IsDescribed, Malformed as NotDescribed}
-use Rattle.performatives.specs.declared.fields.Fitting.{Fitting}
-use Rattle.performatives.specs.declared.fields.Fitting.TheVariants.{Fit, Unfit}
 use Rattle.performatives.specs.Fields.{UShort, UInt, Error, Field, may, defaults, fields_in, fields_of, field_in, field_of, field_at}
 use Rattle.performatives.specs.Performative.{number_of, described, split, fit, fits, fields_by, rows_for, performative_by, performative, when_not, condition_at, condition, remote_channel, Said, said, values_in, values_of, performative_said}
-use Rattle.performatives.specs.Answers.{described_says, performative_says}
-use Rattle.performatives.specs.Inner.{rows_in, rows_from, skip, value_at, fitting_says, last_of, open_says}
+use Rattle.performatives.specs.Answers.{performative_says}
+use Rattle.performatives.specs.Inner.{rows_in, rows_from, skip, value_at, last_of, open_says}
 use Rattle.performatives.proofs.Rows.{at_few}
 use Rattle.performatives.proofs.Answered.{fields_were, found_start, found_all, found_value, fit_at, uint_short, ushort_short}
 
@@ -33,10 +29,10 @@ unfolding and_then
 refused (refuse k) n e = let q : k ≡ 6 = cc in ap refuse q
 refused (accept a) n e = let z : ◌≡◌ {A = ℕ} 0 1 = cc in absurd (omega arith)
 
-field_in_lem : (o : Option (List Field)) (i : ℕ) (r : Field) → field_of o i ≡ some r → field_in (rows_in o) i ≡ some r
+field_in_lem : (o : Option (List Field)) (i : ℕ) (r : Field) → field_of o i ≡ Some r → field_in (rows_in o) i ≡ Some r
 unfolding field_of
-field_in_lem none i r e = let z : ◌≡◌ {A = ℕ} 0 1 = cc in absurd (omega arith)
-field_in_lem (some rows) i r e = e
+field_in_lem None i r e = let z : ◌≡◌ {A = ℕ} 0 1 = cc in absurd (omega arith)
+field_in_lem (Some rows) i r e = e
 
 made : (code count from end : ℕ) (s : List ℕ) (rows : List Field) (fs : List (List ℕ)) → rows_for (fields_of code) ≡ accept rows → fields_by rows count s ≡ accept fs → Out code count from end s ≡ accept (said (record { code = code; fields = fs; from = from; end = end }))
 unfolding performative_by and_then
@@ -46,13 +42,13 @@ named : (code k end from : ℕ) (fs : List (List ℕ)) (vs : List ℕ) → code 
 named code k end from fs vs e h = rw (e, h)
 
 module _ (s : List ℕ) (code count from end : ℕ) where
-  pub unfit : (v : Fitting) → fitting_says v ≡ last_of code count s → v ≡ Unfit → refuse 6 ≡ Out code count from end s
+  pub unfit : refuse 6 ≡ last_of code count s → refuse 6 ≡ Out code count from end s
   unfolding performative_by rows_from rows_for and_then last_of
-  unfit v p t = go (fields_of code) (sym p ∙ ap fitting_says t)
+  unfit p = go (fields_of code) (sym p)
     where
       go : (o : Option (List Field)) → and_then (fields_by (rows_in o) count s) (λ _. accept (skip (count - 1) s)) ≡ refuse 6 → refuse 6 ≡ and_then (and_then (rows_for o) (λ rows. and_then (fields_by rows count s) (λ fs. accept (record { code = code; fields = fs; from = from; end = end })))) (λ p. accept (said p))
-      go none e = refl
-      go (some rows) e = rw (refused (fields_by rows count s) (skip (count - 1) s) e)
+      go None e = refl
+      go (Some rows) e = rw (refused (fields_by rows count s) (skip (count - 1) s) e)
 
   pub other : (code ≡ 16 → ⊥) → (code ≡ 17 → ⊥) → (code ≡ 18 → ⊥) → (code ≡ 19 → ⊥) → (code ≡ 20 → ⊥) → (code ≡ 21 → ⊥) → (code ≡ 22 → ⊥) → (code ≡ 23 → ⊥) → (code ≡ 24 → ⊥) → refuse 6 ≡ Out code count from end s
   unfolding performative_by rows_for and_then fields_of fields_in
@@ -60,10 +56,10 @@ module _ (s : List ℕ) (code count from end : ℕ) where
       rw (ne_eqb code 16 a, ne_eqb code 17 b, ne_eqb code 18 c, ne_eqb code 19 d, ne_eqb code 20 e, ne_eqb code 21 f, ne_eqb code 22 g, ne_eqb code 23 h, ne_eqb code 24 i)
 
   -- the fields as the definition splits them off
-  module _ (v : Fitting) (p : fitting_says v ≡ last_of code count s) (last : ℕ) (t : v ≡ Fit last) where
+  module _ (last : ℕ) (p : accept last ≡ last_of code count s) where
     fielded : (fs : List (List ℕ)) × (fields_by (rows_from code 0) count s ≡ accept fs) × (accept (skip (count - 1) s) ≡ accept last)
     unfolding last_of
-    fielded = then_was (fields_by (rows_from code 0) count s) _ last (sym p ∙ ap fitting_says t)
+    fielded = then_was (fields_by (rows_from code 0) count s) _ last (sym p)
 
     splits : (split 16 count s ≡ accept fielded.0) × (fit (rows_from code 0) fielded.0 ≡ true)
     splits = fields_were (rows_from code 0) count s fielded.0 fielded.1
@@ -71,7 +67,7 @@ module _ (s : List ℕ) (code count from end : ℕ) where
     value_at_lem : (i : ℕ) → value_at i s ≡ get_or fielded.0 i null
     value_at_lem i = found_value i count s fielded.0 splits.0
 
-    typed : (i : ℕ) (r : Field) → field_at code i ≡ some r → fits r.type r.mandatory (value_at i s) ≡ true
+    typed : (i : ℕ) (r : Field) → field_at code i ≡ Some r → fits r.type r.mandatory (value_at i s) ≡ true
     unfolding field_at rows_from
     typed i r e = rw (value_at_lem i) (fit_at (rows_in (fields_of code)) fielded.0 i r splits.1 (field_in_lem (fields_of code) i r e))
 
@@ -92,7 +88,7 @@ module _ (s : List ℕ) (code count from end : ℕ) where
     unfolding accepts
     few = at_few (rows_from code 0) count s (ap accepts fielded.1)
 
-    pub error_given : (k i : ℕ) → code ≡ k → field_at k i ≡ some (may Error) → length (rows_from k 0) ≡ i + 1 → from + length s < 2 ^ 64 → (fits Error false (value_at i s) ≡ true) × (from + length s < 2 ^ 64) × (last ≡ skip (count - 1) s) × (skip count s ≡ length s) × (count ≤ i + 1)
+    pub error_given : (k i : ℕ) → code ≡ k → field_at k i ≡ Some (may Error) → length (rows_from k 0) ≡ i + 1 → from + length s < 2 ^ 64 → (fits Error false (value_at i s) ≡ true) × (from + length s < 2 ^ 64) × (last ≡ skip (count - 1) s) × (skip count s ≡ length s) × (count ≤ i + 1)
     error_given k i e f l h =
         let n : length (rows_from code 0) ≡ i + 1 = rw e l in
         (typed i (may Error) (rw e f), h, sym (accepted _ last fielded.2), found_all count s fielded.0 splits.0, omega (arith, few))
@@ -123,13 +119,11 @@ says v k end vs e = rw e
 
 -- ---- read
 
-module _ (s : List ℕ) (v : D.Described) (p : described_says v ≡ described s) where
-  pub read_not : v ≡ NotDescribed → refuse 6 ≡ performative_said s
+module _ (s : List ℕ) where
+  pub read_not : refuse 6 ≡ described s → refuse 6 ≡ performative_said s
   unfolding performative_said performative and_then
-  read_not t = rw (← p, t)
+  read_not p = rw (← p)
 
-  pub read_is : (code count from end : ℕ) (r : Verdict Said) → v ≡ IsDescribed code count from end → r ≡ Out code count from end (take (end - from) (drop from s)) → r ≡ performative_said s
+  pub read_is : (code count from end : ℕ) (r : Verdict Said) → accept (record { code = code; count = count; from = from; end = end }) ≡ described s → r ≡ Out code count from end (take (end - from) (drop from s)) → r ≡ performative_said s
   unfolding performative_said performative and_then
-  read_is code count from end r t h =
-      let q : described s ≡ accept (record { code = code; count = count; from = from; end = end }) = sym p ∙ ap described_says t in
-      rw q h
+  read_is code count from end r p h = rw (← p) h

@@ -3,43 +3,36 @@
 use mathlib.Core.Path.{◌≡◌, refl, sym, ◌∙◌, subst}
 use mathlib.Core.Bool.{Bool, true, false, ◌&&◌}
 use mathlib.Core.List.{List, [], ◌∷◌}
-use Prim.Native.Nat.{ℕ, zero, suc, ◌+◌, ◌<◌, ◌≤◌}
-use native.Mathlib.Numerals.{add-one}
+use Rattle.std.specs.Prelude.{None, Some}
+use Rattle.std.specs.List.{list_any, slice_get}
+use Prim.Native.Nat.{ℕ, zero, suc, ◌+◌, ◌≤◌}
 use native.Mathlib.Omega.{arith}
-use lib.ListN.{length, drop, get_or}
-use lib.Seq.{drop-cons, drop-length}
+use lib.ListN.{length}
 use lib.Dec.{eqb, leb}
-use borrow.Author.Tests.{eq-eqb, ne_eqb, eqb-true, leb-true}
+use borrow.Author.Tests.{eq-eqb, ne_eqb, eqb-true, eqb-false, leb-true}
 use Rattle.octets.specs.Verdict.{Verdict, refuse, accept}
 use Rattle.performatives.proofs.Bools.{and_first, and_second}
 use Rattle.values.specs.Value.{Kind, fixed, boolean, variable, compound, codes, kind_in, kind_of, run, value_end}
 use Rattle.values.proofs.Laws.{value_fixed}
 use Rattle.octets.specs.Octets.{is_in, starts_with}
 
-pub starts_none : (codes s : List ℕ) → length s ≡ 0 → false ≡ starts_with codes s
+pub starts_none : (codes s : List ℕ) → None ≡ slice_get s 0 → false ≡ starts_with codes s
 unfolding starts_with
 starts_none codes [] h = refl
-starts_none codes (c ∷ s) h = absurd (omega arith)
+starts_none codes (c ∷ s) h = let z : ◌≡◌ {A = ℕ} 0 1 = cc in absurd (omega arith)
 
--- of the codes from i on
-abbrev pub From : List ℕ → List ℕ → ℕ → Type 0
-From codes s i = starts_with codes s ≡ is_in (drop i codes) (get_or s 0 0)
+any_in : (codes : List ℕ) (c : ℕ) → list_any (λ d. eqb d c) codes ≡ is_in codes c
+any_in [] c = refl
+any_in (d ∷ ds) c = go (eqb d c) refl (any_in ds c)
+  where
+    go : (b : Bool) → eqb d c ≡ b → list_any (λ d. eqb d c) ds ≡ is_in ds c → list_any (λ d. eqb d c) (d ∷ ds) ≡ is_in (d ∷ ds) c
+    go true e more = rw (e, eq-eqb c d (sym (eqb-true d c e)))
+    go false e more = rw (e, ne_eqb c d (λ q. eqb-false d c e (sym q))) more
 
-pub from_first : (codes s : List ℕ) → (length s ≡ 0 → ⊥) → From codes s 0
+pub starts_any : (codes s : List ℕ) (c : ℕ) (b : Bool) → Some c ≡ slice_get s 0 → b ≡ list_any (λ d. eqb d c) codes → b ≡ starts_with codes s
 unfolding starts_with
-from_first ds [] h = absurd (h refl)
-from_first ds (c ∷ s) h = refl
-
-module _ (codes s : List ℕ) where
-  module _ (i : ℕ) (inv : From codes s i) where
-    pub from_found : i < length codes → get_or s 0 0 ≡ get_or codes i 0 → true ≡ starts_with codes s
-    from_found h e = sym (inv ∙ rw (drop-cons codes i 0 h, eq-eqb _ _ e))
-
-    pub from_more : i < length codes → (get_or s 0 0 ≡ get_or codes i 0 → ⊥) → From codes s (i + 1)
-    from_more h n = inv ∙ rw (add-one, drop-cons codes i 0 h, ne_eqb _ _ n)
-
-    pub from_last : i ≤ length codes → length codes ≤ i → false ≡ starts_with codes s
-    from_last h n = let q : i ≡ length codes = omega arith in sym (inv ∙ rw (q, drop-length))
+starts_any codes [] c b e q = let z : ◌≡◌ {A = ℕ} 0 1 = cc in absurd (omega arith)
+starts_any codes (d ∷ s) c b e q = let k : c ≡ d = cc in q ∙ any_in codes c ∙ rw k
 
 pub starts_some : (codes s : List ℕ) → starts_with codes s ≡ true → 1 ≤ length s
 unfolding starts_with

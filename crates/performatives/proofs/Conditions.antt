@@ -125,8 +125,8 @@ error_text_lem (x ∷ t) n d e q h =
     let b = then_was (list_at (drop a.0.1 (x ∷ t))) _ d a.2 in
     let r : d ≡ described_by a.0 b.0 = sym (accepted _ d b.2) in
     let k = and_second (eqb d.code 29) _ (rw q at h) in
-    let some : 1 ≤ d.count = leb-true _ _ (and_first (leb 1 d.count) _ k) in
+    let Some : 1 ≤ d.count = leb-true _ _ (and_first (leb 1 d.count) _ k) in
     let symbol = and_second (leb d.count 3) _ (and_second (leb 1 d.count) _ k) in
-    let f = described_first x t n e a.0 a.1 b.0 b.1 (subst (λ (y : Described). 1 ≤ y.count) r some) in
+    let f = described_first x t n e a.0 a.1 b.0 b.1 (subst (λ (y : Described). 1 ≤ y.count) r Some) in
     let i : items_of d (x ∷ t) ≡ take (b.0.end - b.0.from) (drop b.0.from (drop a.0.1 (x ∷ t))) = ap (λ (y : Described). items_of y (x ∷ t)) r ∙ listed (x ∷ t) a.0 b.0 in
     rw i (symbol_text 13 _ f.0 (rw i at symbol) f.1)

@@ -1,5 +1,4 @@
--- Described lists: what each step of `descriptor_at` and `any_described` shows. `v` is the answer of a function that was called, with what that
--- ensures and what it was opened as.
+-- Described lists: what each step of `descriptor_at` and `any_described` shows, by what a function that was called ensures of its answer.
 -- Assumes nothing.
 use mathlib.Core.Path.{◌≡◌, sym, ap, ◌∙◌}
 use mathlib.Core.Bool.{Bool, true, false}
@@ -13,16 +12,8 @@ use lib.Seq.{take_all}
 use Rattle.octets.specs.Verdict.{refuse, accept, require, and_then}
 use Rattle.octets.specs.Octets.{big_endian, starts_with}
 use Rattle.values.specs.Value.{value_end}
-use Rattle.values.specs.Answers.{ended}
-use Rattle.values.specs.declared.Value.{Value}
-use Rattle.values.specs.declared.Value.TheVariants.{End, Malformed}
 use Rattle.values.proofs.Cases.{tail}
 use Rattle.values.proofs.Laws.{value_within, value_some}
-use Rattle.performatives.specs.declared.composite.Items as I
-use Rattle.performatives.specs.declared.composite.Items.TheVariants.{List as IsList, Malformed as NoList}
-use Rattle.performatives.specs.declared.composite.Descriptor as D
-use Rattle.performatives.specs.declared.composite.Descriptor.TheVariants.{Ulong, Malformed as NoUlong}
-use Rattle.performatives.specs.Inner.{items_says, descriptor_says}
 use Rattle.performatives.proofs.Bounds.{list_lies, descriptor_lies}
 use Rattle.performatives.specs.Performative.{number_of, list_at, descriptor, described}
 use Rattle.performatives.proofs.Parts.{drop_take}
@@ -42,14 +33,14 @@ module _ (s : List ℕ) (a : Bool) (p : a ≡ starts_with (0 ∷ []) s) where
       unfolding descriptor require
       descriptor_other t = rw (← p, at, ← tail s 1, ← q, t)
 
-      module _ (bt : b ≡ true) (v : Value) (e : ended v ≡ value_end 1 (take (length s - 1) (drop 1 s))) where
-        pub descriptor_malformed : v ≡ Malformed → refuse 6 ≡ descriptor s
+      module _ (bt : b ≡ true) where
+        pub descriptor_malformed : refuse 6 ≡ value_end 1 (take (length s - 1) (drop 1 s)) → refuse 6 ≡ descriptor s
         unfolding descriptor require and_then
-        descriptor_malformed t = rw (← p, at, ← tail s 1, ← q, bt, ← e, t)
+        descriptor_malformed e = rw (← p, at, ← tail s 1, ← q, bt, ← e)
 
-        module _ (n : ℕ) (t : v ≡ End n) where
+        module _ (n : ℕ) (e : accept n ≡ value_end 1 (take (length s - 1) (drop 1 s))) where
           ends : value_end 1 (take (length s - 1) (drop 1 s)) ≡ accept n
-          ends = sym e ∙ ap ended t
+          ends = sym e
 
           pub ulong_some : 1 ≤ n
           ulong_some = value_some 1 _ n ends
@@ -72,36 +63,35 @@ module _ (s : List ℕ) (a : Bool) (p : a ≡ starts_with (0 ∷ []) s) where
 
 -- ---- a descriptor and a list
 
-module _ (s : List ℕ) (v : D.Descriptor) (p : descriptor_says v ≡ descriptor s) where
-  pub described_not : v ≡ NoUlong → refuse 6 ≡ described s
+module _ (s : List ℕ) where
+  pub described_not : refuse 6 ≡ descriptor s → refuse 6 ≡ described s
   unfolding described and_then
-  described_not t = rw (← p, t)
+  described_not p = rw (← p)
 
-  module _ (code at : ℕ) (t : v ≡ Ulong code at) where
+  module _ (code at : ℕ) (p : accept (code, at) ≡ descriptor s) where
     named : descriptor s ≡ accept (code, at)
-    named = sym p ∙ ap descriptor_says t
+    named = sym p
 
     pub list_from : at ≤ length s
     list_from = (descriptor_lies s (code, at) named).inside
 
-    module _ (l : I.Items) (q : items_says l ≡ list_at (take (length s - at) (drop at s))) where
-      pub described_malformed : l ≡ NoList → refuse 6 ≡ described s
+    pub described_malformed : refuse 6 ≡ list_at (take (length s - at) (drop at s)) → refuse 6 ≡ described s
+    unfolding described and_then
+    described_malformed q = rw (named, ← tail s at, ← q)
+
+    module _ (count from end : ℕ) (q : accept (record { count = count; from = from; end = end }) ≡ list_at (take (length s - at) (drop at s))) where
+      listed : list_at (drop at s) ≡ accept (record { count = count; from = from; end = end })
+      listed = ap list_at (sym (tail s at)) ∙ sym q
+
+      pub list_ends : at + end ≤ length s
+      list_ends = omega (arith, (list_lies (drop at s) _ listed).inside, length-drop at s, list_from)
+
+      pub from_fits : length s < 2 ^ 64 → Fits w64 (at + from)
+      from_fits h = omega (arith, (list_lies (drop at s) _ listed).ordered, list_ends)
+
+      pub end_fits : length s < 2 ^ 64 → Fits w64 (at + end)
+      end_fits h = omega (arith, list_ends)
+
+      pub described_is : accept (record { code = code; count = count; from = at + from; end = at + end }) ≡ described s
       unfolding described and_then
-      described_malformed u = rw (named, ← tail s at, ← q, u)
-
-      module _ (count from end : ℕ) (u : l ≡ IsList count from end) where
-        listed : list_at (drop at s) ≡ accept (record { count = count; from = from; end = end })
-        listed = ap list_at (sym (tail s at)) ∙ sym q ∙ ap items_says u
-
-        pub list_ends : at + end ≤ length s
-        list_ends = omega (arith, (list_lies (drop at s) _ listed).inside, length-drop at s, list_from)
-
-        pub from_fits : length s < 2 ^ 64 → Fits w64 (at + from)
-        from_fits h = omega (arith, (list_lies (drop at s) _ listed).ordered, list_ends)
-
-        pub end_fits : length s < 2 ^ 64 → Fits w64 (at + end)
-        end_fits h = omega (arith, list_ends)
-
-        pub described_is : accept (record { code = code; count = count; from = at + from; end = at + end }) ≡ described s
-        unfolding described and_then
-        described_is = rw (named, listed)
+      described_is = rw (named, listed)

@@ -1,4 +1,4 @@
--- The values of a list, found one after the other: what each step of `next`, `skip`, `item` and `is_null` shows.
+-- The values of a list, found one after the other: what each step of `next`, `skip` and `item` shows.
 -- Assumes nothing.
 use mathlib.Core.Path.{◌≡◌, refl, sym, ap, ◌∙◌}
 use mathlib.Core.Bool.{Bool, true}
@@ -11,11 +11,11 @@ use lib.Seq.{drop-drop, drop-length, take-nil, length-take-le}
 use Rattle.octets.specs.Verdict.{Verdict, refuse, accept}
 use Rattle.octets.specs.Octets.{starts_with}
 use Rattle.values.specs.Value.{value_end}
-use Rattle.values.specs.Null.{null, is_null}
+use Rattle.values.specs.Null.{null, is_null, or_null}
 use Rattle.values.specs.Answers.{place_after}
 use Rattle.values.proofs.Laws.{value_within}
 use Rattle.values.proofs.Places.{place_off, place_on, place_in}
-use Rattle.performatives.specs.Inner.{after_or, next, skip, item, or_null}
+use Rattle.performatives.specs.Inner.{after_or, next, skip, item}
 
 -- ---- next
 
@@ -58,9 +58,6 @@ skip_none s = refl
 pub skip_next : (s : List ℕ) (i at end : ℕ) → at ≡ skip i s → end ≡ next s at → end ≡ skip (i + 1) s
 unfolding skip
 skip_next s i at end p q = q ∙ rw (p, add-one)
-
-pub skip_done : (s : List ℕ) (i k at : ℕ) → at ≡ skip k s → k ≤ i → i ≤ k → at ≡ skip i s
-skip_done s i k at p l h = let e : k ≡ i = omega arith in p ∙ rw e
 
 -- the value before the next begins where this one did
 pub skip_same : (s : List ℕ) (i at : ℕ) → at ≡ skip i s → at ≡ skip ((i + 1) - 1) s
@@ -121,14 +118,3 @@ item_front i s n e =
     let k = skip i (drop n s) in
     let d : (n + next (drop n s) k) - (n + k) ≡ next (drop n s) k - k = omega arith in
     rw (skip_front i s n e, next_front s n k, d, drop-drop k n s)
-
--- ---- is_null
-
-pub null_missing : (f : List ℕ) → length f ≡ 0 → true ≡ is_null (or_null f)
-unfolding starts_with
-null_missing [] h = refl
-null_missing (b ∷ f) h = absurd (omega arith)
-
-pub null_there : (f : List ℕ) (b : Bool) → (length f ≡ 0 → ⊥) → b ≡ starts_with null f → b ≡ is_null (or_null f)
-null_there [] b h e = absurd (h refl)
-null_there (x ∷ f) b h e = e

@@ -76,8 +76,8 @@ sized_front w e s t x v h l =
 
 list_front : (e : ℕ) (s t : List ℕ) (x : Items) → list_at s ≡ accept x → 1 ≤ length s → 1 ≤ e → x.end ≤ e → e ≤ length s → list_at (take e s ++ t) ≡ accept x
 unfolding list_at
-list_front e s t x v some h k l =
-    rw (starts_front (0x45 ∷ []) s t e h some, starts_front (0xc0 ∷ []) s t e h some, starts_front (0xd0 ∷ []) s t e h some)
+list_front e s t x v Some h k l =
+    rw (starts_front (0x45 ∷ []) s t e h Some, starts_front (0xc0 ∷ []) s t e h Some, starts_front (0xd0 ∷ []) s t e h Some)
     (go (starts_with (0x45 ∷ []) s) (starts_with (0xc0 ∷ []) s) (starts_with (0xd0 ∷ []) s) v)
   where
     go : (a b c : Bool) → cond a (accept (record { count = 0; from = 1; end = 1 })) (cond b (sized 1 s) (cond c (sized 4 s) (refuse 6))) ≡ accept x → cond a (accept (record { count = 0; from = 1; end = 1 })) (cond b (sized 1 (take e s ++ t)) (cond c (sized 4 (take e s ++ t)) (refuse 6))) ≡ accept x

@@ -4,7 +4,7 @@
 use mathlib.Core.Path.{◌≡◌, refl, sym, ap, ◌∙◌, subst}
 use mathlib.Core.Bool.{Bool, true, false, cond}
 use mathlib.Core.List.{List, ◌++◌, [], ◌∷◌}
-use mathlib.Core.Option.{Option, none, some}
+use Rattle.std.specs.Prelude.{Option, None, Some}
 use Prim.Native.Nat.{ℕ, ◌-◌, ◌<◌, ◌≤◌, ◌+◌}
 use native.Mathlib.Omega.{arith}
 use lib.Dec.{leb}
@@ -13,11 +13,11 @@ use borrow.Author.Tests.{leb-true, leb-false}
 use Rattle.octets.specs.Verdict.{refuse, accept, and_then, Verdict}
 use Rattle.octets.specs.Octets.{big_endian, starts_with}
 use Rattle.values.specs.Value.{value_end}
-use Rattle.values.specs.Null.{null, is_null}
+use Rattle.values.specs.Null.{null, is_null, or_null}
 use Rattle.values.proofs.Apart.{accepted, then_was}
 use Rattle.performatives.specs.Fields.{Field, fields_of, Error, may, field_in, field_of, field_at}
 use Rattle.performatives.specs.Performative.{Described, described, items_of, fields_by, rows_for, Performative, performative_by, performative, split, is_error, has_type, fits, fit, start_of, when_not, text_at, condition_at, condition}
-use Rattle.performatives.specs.Inner.{skip, item, or_null, value_at, text_from}
+use Rattle.performatives.specs.Inner.{skip, item, value_at, text_from}
 use Rattle.performatives.proofs.Table.{unknown}
 use Rattle.performatives.proofs.Bounds.{Lies, described_lies}
 use Rattle.performatives.proofs.Front.{part_front, described_front}
@@ -33,16 +33,16 @@ pub record Made (s : List ℕ) (p : Performative) : Type 0 where
   pub list : Described
   pub rows : List Field
   pub is_list : described s ≡ accept list
-  pub has_rows : fields_of p.code ≡ some rows
+  pub has_rows : fields_of p.code ≡ Some rows
   pub has_fields : fields_by rows list.count (items_of list s) ≡ accept p.fields
   pub code_is : p.code ≡ list.code
   pub from_is : p.from ≡ list.from
   pub end_is : p.end ≡ list.end
 
-rows_were : (o : Option (List Field)) (rows : List Field) → rows_for o ≡ accept rows → o ≡ some rows
+rows_were : (o : Option (List Field)) (rows : List Field) → rows_for o ≡ accept rows → o ≡ Some rows
 unfolding rows_for
-rows_were none rows e = let z : ◌≡◌ {A = ℕ} 0 1 = cc in absurd (omega arith)
-rows_were (some r) rows e = ap some (accepted r rows e)
+rows_were None rows e = let z : ◌≡◌ {A = ℕ} 0 1 = cc in absurd (omega arith)
+rows_were (Some r) rows e = ap Some (accepted r rows e)
 
 pub performative_was : (s : List ℕ) (p : Performative) → performative s ≡ accept p → Made s p
 unfolding performative performative_by
@@ -71,7 +71,7 @@ performative_code s p e = go (leb 16 p.code) (leb p.code 24) refl refl
     impossible : (16 ≤ p.code → p.code ≤ 24 → ⊥) → (16 ≤ p.code) × (p.code ≤ 24)
     impossible n =
         let m = performative_was s p e in
-        let f : none ≡ some m.rows = sym (unknown p.code n) ∙ m.has_rows in
+        let f : None ≡ Some m.rows = sym (unknown p.code n) ∙ m.has_rows in
         let z : ◌≡◌ {A = ℕ} 0 1 = cc in
         absurd (omega arith)
 
@@ -118,12 +118,12 @@ error_lies at f n from len v h e = go (described f) refl e
         let l = described_lies f d q in
         (omega arith, omega (arith, l.ordered, l.inside, length-take (d.end - d.from) (drop d.from f), length-drop d.from f))
 
-field_in_lem : (o : Option (List Field)) (rows : List Field) (i : ℕ) (r : Field) → o ≡ some rows → field_of o i ≡ some r → field_in rows i ≡ some r
+field_in_lem : (o : Option (List Field)) (rows : List Field) (i : ℕ) (r : Field) → o ≡ Some rows → field_of o i ≡ Some r → field_in rows i ≡ Some r
 unfolding field_of
 field_in_lem o rows i r q e = rw q at e
 
 -- the i-th value of a list, as a field that is an error
-module _ (s : List ℕ) (count : ℕ) (fs : List (List ℕ)) (rows : List Field) (e : fields_by rows count s ≡ accept fs) (i : ℕ) (r : field_in rows i ≡ some (may Error)) where
+module _ (s : List ℕ) (count : ℕ) (fs : List (List ℕ)) (rows : List Field) (e : fields_by rows count s ≡ accept fs) (i : ℕ) (r : field_in rows i ≡ Some (may Error)) where
   splits : (split 16 count s ≡ accept fs) × (fit rows fs ≡ true)
   splits = fields_were rows count s fs e
 
@@ -143,7 +143,7 @@ module _ (s : List ℕ) (count : ℕ) (fs : List (List ℕ)) (rows : List Field)
           (omega (arith, l.0), omega (arith, l.1, item_lies i s))
 
 -- where the condition of an error begins and how long it is
-pub condition_lies : (s : List ℕ) (p : Performative) → performative s ≡ accept p → (i : ℕ) → field_at p.code i ≡ some (may Error) → (from len : ℕ) → condition i p ≡ from ∷ len ∷ [] → (p.from ≤ from) × (from + len ≤ p.end)
+pub condition_lies : (s : List ℕ) (p : Performative) → performative s ≡ accept p → (i : ℕ) → field_at p.code i ≡ Some (may Error) → (from len : ℕ) → condition i p ≡ from ∷ len ∷ [] → (p.from ≤ from) × (from + len ≤ p.end)
 unfolding field_at condition
 condition_lies s p e i r from len h =
     let m = performative_was s p e in

@@ -12,10 +12,10 @@ use lib.Seq.{drop-cons, take_all}
 use lib.Pow.{pow_mono}
 use borrow.Author.Tests.{eq-eqb, ne_eqb}
 use Rattle.octets.specs.Octets.{big_endian, is_in, starts_with}
-use Rattle.values.specs.Null.{is_null}
+use Rattle.values.specs.Null.{is_null, or_null}
 use Rattle.values.proofs.Cases.{tail}
 use Rattle.performatives.specs.Performative.{number_of, number_or, when_not}
-use Rattle.performatives.specs.Inner.{next, skip, item, or_null, value_at, NumberRead, open_says}
+use Rattle.performatives.specs.Inner.{next, skip, item, value_at, NumberRead, open_says}
 use Rattle.performatives.proofs.Found.{skip_next, item_within, item_is}
 
 pub there : (f : List ℕ) → is_null (or_null f) ≡ false → or_null f ≡ f
@@ -117,18 +117,18 @@ module _ (i : ℕ) (s f : List ℕ) (p : f ≡ item i s) (b : Bool) (q : b ≡ i
   channel_null t = rw (at_field, ← q, t)
 
   module _ (t : b ≡ false) where
-    some : is_null (or_null f) ≡ false
-    some = sym q ∙ t
+    Some : is_null (or_null f) ≡ false
+    Some = sym q ∙ t
 
     pub channel_some : 1 ≤ length f
-    channel_some = some_there f some
+    channel_some = some_there f Some
 
     module _ (short : length (value_at i s) ≤ 3) (x : ℕ) (e : x ≡ big_endian (take 8 (take (length f - 1) (drop 1 f)))) where
       few : length (or_null f) ≤ 3
       few = rw at_field at short
 
       pub channel_fits : x < 2 ^ (8 * length (take 8 (take (length f - 1) (drop 1 f)))) → Fits w16 x
-      channel_fits h = omega (arith, number_low f some _ (tail f 1) x e h 2 few)
+      channel_fits h = omega (arith, number_low f Some _ (tail f 1) x e h 2 few)
 
       pub channel_is : x ∷ [] ≡ when_not (is_null (value_at i s)) (number_of (value_at i s) ∷ [])
-      channel_is = rw (at_field, some, number_is f some _ (tail f 1) x e (omega (arith, few)))
+      channel_is = rw (at_field, Some, number_is f Some _ (tail f 1) x e (omega (arith, few)))

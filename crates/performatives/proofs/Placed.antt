@@ -12,18 +12,16 @@ use lib.Seq.{length-take-le}
 use Rattle.octets.specs.Verdict.{Verdict, refuse, accept}
 use Rattle.octets.specs.Octets.{big_endian, starts_with}
 use Rattle.values.specs.Value.{value_end}
-use Rattle.values.specs.Null.{is_null}
+use Rattle.values.specs.Null.{is_null, or_null}
 use Rattle.values.proofs.Laws.{value_within, value_local}
-use Rattle.performatives.specs.declared.Described as D
-use Rattle.performatives.specs.declared.Described.TheVariants.{List as IsDescribed, Malformed as NotDescribed}
+use Rattle.values.proofs.Missing.{null_missing}
 use Rattle.performatives.specs.Fields.{Error}
 use Rattle.performatives.specs.Performative.{described, is_error, has_type, fits, when_not, text_at, condition_at}
-use Rattle.performatives.specs.Answers.{described_says}
-use Rattle.performatives.specs.Inner.{after_or, next, skip, item, or_null, value_at, text_from}
+use Rattle.performatives.specs.Inner.{after_or, next, skip, item, value_at, text_from}
 use Rattle.performatives.proofs.Lists.{part_is}
 use Rattle.performatives.proofs.Bounds.{described_lies}
 use Rattle.performatives.proofs.Conditions.{error_text_lem}
-use Rattle.performatives.proofs.Found.{skip_within, skip_next, item_is, item_past, null_missing}
+use Rattle.performatives.proofs.Found.{skip_within, skip_next, item_is, item_past}
 use Rattle.performatives.proofs.Numbers.{there, some_there}
 
 -- ---- text
@@ -51,14 +49,14 @@ module _ (s : List ℕ) (at : ℕ) (b : Bool) (p : b ≡ starts_with (0xa1 ∷ 0
 
 -- ---- error_condition
 
-module _ (f : List ℕ) (at : ℕ) (v : D.Described) (p : described_says v ≡ described f) where
-  pub condition_none : v ≡ NotDescribed → [] ≡ condition_at at f (described f)
+module _ (f : List ℕ) (at : ℕ) where
+  pub condition_none : refuse 6 ≡ described f → [] ≡ condition_at at f (described f)
   unfolding condition_at
-  condition_none t = rw (← p, t)
+  condition_none p = rw (← p)
 
-  module _ (code count from end : ℕ) (t : v ≡ IsDescribed code count from end) where
+  module _ (code count from end : ℕ) (p : accept (record { code = code; count = count; from = from; end = end }) ≡ described f) where
     is : described f ≡ accept (record { code = code; count = count; from = from; end = end })
-    is = sym p ∙ ap described_says t
+    is = sym p
 
     pub place_fits : at + length f < 2 ^ 64 → Fits w64 (at + from)
     place_fits h = omega (arith, (described_lies f _ is).ordered, (described_lies f _ is).inside)
@@ -136,14 +134,14 @@ module _ (i count last from : ℕ) (s : List ℕ) (g : (fits Error false (value_
         unfolding value_at
         same = rw (← is_item) (there f (sym q ∙ t))
 
-        some : is_null f ≡ false
-        some = ap is_null (sym (there f (sym q ∙ t))) ∙ sym q ∙ t
+        Some : is_null f ≡ false
+        Some = ap is_null (sym (there f (sym q ∙ t))) ∙ sym q ∙ t
 
         pub error_given : (is_error f ≡ true) × (value_end 16 f ≡ accept (length f)) × ((from + last) + length f < 2 ^ 64)
         unfolding fits has_type
         error_given =
             let w : value_end 16 f ≡ accept (length f) = subst (λ (x : List ℕ). 1 ≤ length x → value_end 16 x ≡ accept (length x)) (sym is_item) (item_whole i s) (some_there f (sym q ∙ t)) in
-            (rw (same, some) at g.0, w, omega (arith, g.1, ap length is_item, item_lies i s, last_at))
+            (rw (same, Some) at g.0, w, omega (arith, g.1, ap length is_item, item_lies i s, last_at))
 
         pub error_there : (r : List ℕ) → r ≡ condition_at (from + last) f (described f) → Says r
-        error_there r c = rw (same, some, ← last_at) c
+        error_there r c = rw (same, Some, ← last_at) c

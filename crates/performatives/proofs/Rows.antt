@@ -3,7 +3,7 @@
 use mathlib.Core.Path.{◌≡◌, refl, sym, ap, ◌∙◌}
 use mathlib.Core.Bool.{Bool, true, false, cond, not, ◌&&◌, and-false}
 use mathlib.Core.List.{List, [], ◌∷◌}
-use mathlib.Core.Option.{Option, none, some}
+use Rattle.std.specs.Prelude.{Option, None, Some}
 use Prim.Native.Nat.{ℕ, zero, suc, ◌+◌, ◌-◌, ◌*◌, ◌/◌, ◌%◌, ◌^◌, ◌<◌, ◌≤◌}
 use native.Mathlib.Nat.{sub-zero, div-one, div-div-eq-div-mul, pow-suc}
 use native.Mathlib.Numerals.{add-one}
@@ -18,45 +18,42 @@ use Rattle.values.specs.Null.{is_null}
 use Rattle.values.specs.Answers.{place_after}
 use Rattle.values.proofs.Places.{place_off, place_on, place_in}
 use Rattle.performatives.specs.declared.FieldType as C
-use Rattle.performatives.specs.declared.Default as D
-use Rattle.performatives.specs.declared.Row as R
-use Rattle.performatives.specs.declared.Row.TheVariants.{Field as IsField, Past}
 use Rattle.performatives.specs.Fields.{Field, fields_of, field_in, field_of, field_at}
 use Rattle.performatives.specs.Performative.{has_type, fits, fit, split, fields_by}
-use Rattle.performatives.specs.Answers.{type_says, row_says}
+use Rattle.performatives.specs.Answers.{type_says}
 use Rattle.performatives.specs.Inner.{rows_in, rows_from, row_in, row_named, RowsIn, suits, skip, last_of}
 use Rattle.performatives.proofs.Table.{row_past}
 use Rattle.performatives.proofs.Bounds.{fields_six}
 
 -- ---- the rows from field i on
 
-none_left : (rows : List Field) (i : ℕ) → field_in rows i ≡ none → drop i rows ≡ []
+none_left : (rows : List Field) (i : ℕ) → field_in rows i ≡ None → drop i rows ≡ []
 unfolding field_in
 none_left [] i e = drop-nil i
 none_left (r ∷ rows) zero e = let z : ◌≡◌ {A = ℕ} 0 1 = cc in absurd (omega arith)
 none_left (r ∷ rows) (suc i) e = none_left rows i e
 
-one_left : (rows : List Field) (i : ℕ) (r : Field) → field_in rows i ≡ some r → drop i rows ≡ r ∷ drop (suc i) rows
+one_left : (rows : List Field) (i : ℕ) (r : Field) → field_in rows i ≡ Some r → drop i rows ≡ r ∷ drop (suc i) rows
 unfolding field_in
 one_left [] i r e = let z : ◌≡◌ {A = ℕ} 0 1 = cc in absurd (omega arith)
 one_left (x ∷ rows) zero r e = let q : x ≡ r = cc in ap (λ (y : Field). y ∷ rows) q
 one_left (x ∷ rows) (suc i) r e = one_left rows i r e
 
-none_of : (o : Option (List Field)) (i : ℕ) → field_of o i ≡ none → drop i (rows_in o) ≡ []
+none_of : (o : Option (List Field)) (i : ℕ) → field_of o i ≡ None → drop i (rows_in o) ≡ []
 unfolding field_of
-none_of none i e = drop-nil i
-none_of (some rows) i e = none_left rows i e
+none_of None i e = drop-nil i
+none_of (Some rows) i e = none_left rows i e
 
-one_of : (o : Option (List Field)) (i : ℕ) (r : Field) → field_of o i ≡ some r → drop i (rows_in o) ≡ r ∷ drop (suc i) (rows_in o)
+one_of : (o : Option (List Field)) (i : ℕ) (r : Field) → field_of o i ≡ Some r → drop i (rows_in o) ≡ r ∷ drop (suc i) (rows_in o)
 unfolding field_of
-one_of none i r e = let z : ◌≡◌ {A = ℕ} 0 1 = cc in absurd (omega arith)
-one_of (some rows) i r e = one_left rows i r e
+one_of None i r e = let z : ◌≡◌ {A = ℕ} 0 1 = cc in absurd (omega arith)
+one_of (Some rows) i r e = one_left rows i r e
 
-pub none_from : (code i : ℕ) → field_at code i ≡ none → rows_from code i ≡ []
+pub none_from : (code i : ℕ) → field_at code i ≡ None → rows_from code i ≡ []
 unfolding rows_from field_at
 none_from code i e = none_of (fields_of code) i e
 
-more_from : (code i : ℕ) (r : Field) → field_at code i ≡ some r → rows_from code i ≡ r ∷ rows_from code (i + 1)
+more_from : (code i : ℕ) (r : Field) → field_at code i ≡ Some r → rows_from code i ≡ r ∷ rows_from code (i + 1)
 unfolding rows_from field_at
 more_from code i r e = one_of (fields_of code) i r e ∙ rw add-one
 
@@ -122,14 +119,14 @@ at_few rows c s e = go (leb c (length rows)) refl
 
 -- ---- the steps of `suits`
 
-module _ (f : List ℕ) (letter : ℕ) (v : R.Row) (p : row_says v ≡ row_named letter) where
-  pub suits_past : v ≡ Past → false ≡ suits (row_named letter) f
+module _ (f : List ℕ) (letter : ℕ) where
+  pub suits_past : None ≡ row_named letter → false ≡ suits (row_named letter) f
   unfolding suits
-  suits_past t = rw (← p, t)
+  suits_past p = rw (← p)
 
-  pub suits_row : (kind : C.FieldType) (mandatory : Bool) (default : D.Default) (b : Bool) → v ≡ IsField kind mandatory default → b ≡ fits (type_says kind) mandatory f → b ≡ suits (row_named letter) f
+  pub suits_row : (kind : C.FieldType) (mandatory : Bool) (default : Option ℕ) (b : Bool) → Some (record { type = type_says kind; mandatory = mandatory; default = default }) ≡ row_named letter → b ≡ fits (type_says kind) mandatory f → b ≡ suits (row_named letter) f
   unfolding suits
-  suits_row kind mandatory default b t q = rw (← p, t) q
+  suits_row kind mandatory default b p q = rw (← p) q
 
 -- any value may stand in a field of any type
 any_suits : (f : List ℕ) → suits (row_named 0) f ≡ true
@@ -179,8 +176,8 @@ unfolding suits
 step_at code i k at end s l v = go (field_at code i) refl
   where
     go : (o : Option Field) → field_at code i ≡ o → accepts (fields_by (rows_from code i) (suc k) (drop at s)) ≡ suits o (take (end - at) (drop at s)) && accepts (fields_by (rows_from code (i + 1)) k (drop end s))
-    go none e = rw (none_from code i e) (sym (at_over k (drop at s)))
-    go (some r) e =
+    go None e = rw (none_from code i e) (sym (at_over k (drop at s)))
+    go (Some r) e =
         let d : at + (end - at) ≡ end = omega arith in
         rw (more_from code i r e) (step r (rows_from code (i + 1)) k (drop at s) (end - at) v ∙ rw (drop-drop, d))
 

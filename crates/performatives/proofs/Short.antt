@@ -47,7 +47,7 @@ one : (b : ℕ) (t : List ℕ) → number_in 1 (b ∷ t) ≡ accept b
 unfolding big_endian big_endian_from
 one b t = number_is 1 (b ∷ t) (omega arith) ∙ ap accept (zero-add b)
 
-module _ (c size count : ℕ) (t : List ℕ) (some : 0 < size) (room : size ≤ suc (length t)) where
+module _ (c size count : ℕ) (t : List ℕ) (Some : 0 < size) (room : size ≤ suc (length t)) where
   abbrev whole : List ℕ
   whole = 0 ∷ 0x53 ∷ c ∷ 0xc0 ∷ size ∷ count ∷ t
 
@@ -63,7 +63,7 @@ module _ (c size count : ℕ) (t : List ℕ) (some : 0 < size) (room : size ≤ 
 
   opened : opening list 1 (size ∷ count ∷ t) ≡ accept (size, count)
   unfolding paired_in
-  opened = opening_is list 1 (size ∷ count ∷ t) size count (record { sized = one size (count ∷ t); fits = omega arith; counted = counted size some; paired = refl })
+  opened = opening_is list 1 (size ∷ count ∷ t) size count (record { sized = one size (count ∷ t); fits = omega arith; counted = counted size Some; paired = refl })
 
   listed : list_at (0xc0 ∷ size ∷ count ∷ t) ≡ accept (record { count = count; from = 3; end = 2 + size })
   unfolding list_at starts_with sized and_then

@@ -3,7 +3,7 @@
 use mathlib.Core.Path.{◌≡◌, refl, sym}
 use mathlib.Core.List.{List, [], ◌∷◌}
 use mathlib.Core.Bool.{Bool, true, false, cond, ◌&&◌}
-use mathlib.Core.Option.{none, some}
+use Rattle.std.specs.Prelude.{None, Some}
 use Prim.Native.Nat.{ℕ, zero, suc, ◌≤◌}
 use native.Mathlib.Omega.{arith}
 use lib.Dec.{leb, eqb}
@@ -42,7 +42,7 @@ module _ (p : ℕ × List Field) (ps : List (ℕ × List Field)) (h : in_table (
   unfolding in_table
   others = and_second (few p) _ (and_second (high p) _ (and_second (low p) _ h))
 
-none_in : (code : ℕ) → (16 ≤ code → code ≤ 24 → ⊥) → (ps : List (ℕ × List Field)) → in_table ps ≡ true → fields_in ps code ≡ none
+none_in : (code : ℕ) → (16 ≤ code → code ≤ 24 → ⊥) → (ps : List (ℕ × List Field)) → in_table ps ≡ true → fields_in ps code ≡ None
 unfolding fields_in
 none_in code out [] h = refl
 none_in code out (p ∷ ps) h =
@@ -50,18 +50,18 @@ none_in code out (p ∷ ps) h =
     let m = is_high p ps h in
     rw (ne_eqb code p.0 (λ e. out (omega arith) (omega arith))) (none_in code out ps (others p ps h))
 
-past : (rs : List Field) (i : ℕ) → length rs ≤ i → field_in rs i ≡ none
+past : (rs : List Field) (i : ℕ) → length rs ≤ i → field_in rs i ≡ None
 unfolding field_in
 past [] i h = refl
 past (r ∷ rs) zero h = absurd (omega arith)
 past (r ∷ rs) (suc i) h = past rs i (omega arith)
 
-past_in : (code i : ℕ) → 14 ≤ i → (ps : List (ℕ × List Field)) → in_table ps ≡ true → field_of (fields_in ps code) i ≡ none
+past_in : (code i : ℕ) → 14 ≤ i → (ps : List (ℕ × List Field)) → in_table ps ≡ true → field_of (fields_in ps code) i ≡ None
 unfolding fields_in field_of
 past_in code i l [] h = refl
 past_in code i l (p ∷ ps) h = go (eqb code p.0) (past_in code i l ps (others p ps h))
   where
-    go : (b : Bool) → field_of (fields_in ps code) i ≡ none → field_of (cond b (some p.1) (fields_in ps code)) i ≡ none
+    go : (b : Bool) → field_of (fields_in ps code) i ≡ None → field_of (cond b (Some p.1) (fields_in ps code)) i ≡ None
     go true e = let m = is_few p ps h in past p.1 i (omega arith)
     go false e = e
 
@@ -70,10 +70,10 @@ unfolding in_table low high few
 tested = refl
 
 -- no performative has this descriptor
-pub unknown : (code : ℕ) → (16 ≤ code → code ≤ 24 → ⊥) → fields_of code ≡ none
+pub unknown : (code : ℕ) → (16 ≤ code → code ≤ 24 → ⊥) → fields_of code ≡ None
 unfolding fields_of
 unknown code out = none_in code out performatives tested
 
-pub row_past : (code i : ℕ) → 14 ≤ i → none ≡ field_at code i
+pub row_past : (code i : ℕ) → 14 ≤ i → None ≡ field_at code i
 unfolding field_at fields_of
 row_past code i h = sym (past_in code i h performatives tested)

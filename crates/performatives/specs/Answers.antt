@@ -1,24 +1,15 @@
 -- What each case of a public answer says.
 -- Assumes nothing: these are definitions.
-use Rattle.std.specs.Prelude.{ℕ, List, [], ◌∷◌}
-use Rattle.std.proofs.Math.Option.{Option, none, some}
+use Rattle.std.specs.Prelude.{ℕ, List, [], ◌∷◌, Option, None, Some}
 use Rattle.octets.specs.Verdict.{Verdict, refuse, accept}
 use Rattle.performatives.specs.declared.FieldType as C
 use Rattle.performatives.specs.declared.FieldType.TheVariants as T
-use Rattle.performatives.specs.declared.Default.{Default}
-use Rattle.performatives.specs.declared.Default.TheVariants.{Null, Number}
-use Rattle.performatives.specs.declared.Row.{Row}
-use Rattle.performatives.specs.declared.Row.TheVariants as R
+use Rattle.performatives.specs.declared.Field as F
 use Rattle.performatives.specs.declared.Described as D
-use Rattle.performatives.specs.declared.Described.TheVariants.{List as IsDescribed, Malformed as NotDescribed}
-use Rattle.performatives.specs.declared.RemoteChannel.{RemoteChannel}
-use Rattle.performatives.specs.declared.RemoteChannel.TheVariants.{Absent as NoChannel, Is as IsChannel}
 use Rattle.performatives.specs.declared.Condition.{Condition}
-use Rattle.performatives.specs.declared.Condition.TheVariants.{Absent as NoCondition, At}
 use Rattle.performatives.specs.declared.Performative as P
 use Rattle.performatives.specs.declared.Performative.TheVariants.{Open, Begin, Attach, Flow, Transfer, Disposition, Detach, End, Close}
 use Rattle.performatives.specs.declared.Body.{Body}
-use Rattle.performatives.specs.declared.Body.TheVariants.{Is as IsBody, Malformed as NoBody}
 use Rattle.performatives.specs.Fields.{FieldType, Any, UShort, UInt, String, Error, Field}
 use Rattle.performatives.specs.Performative.{Described, Said}
 
@@ -31,29 +22,28 @@ type_says T.UInt = UInt
 type_says T.String = String
 type_says T.Error = Error
 
-abbrev pub default_says : Default → Option ℕ
-default_says Null = none
-default_says (Number n) = some n
+abbrev pub field_says : F.Field → Field
+field_says f = record { type = type_says f.kind; mandatory = f.mandatory; default = f.default }
 
-abbrev pub row_says : Row → Option Field
-row_says (R.Field kind mandatory default) = some (record { type = type_says kind; mandatory = mandatory; default = default_says default })
-row_says R.Past = none
+abbrev pub row_says : Option F.Field → Option Field
+row_says (Some f) = Some (field_says f)
+row_says None = None
 
 -- ---- a described list
 
-abbrev pub described_says : D.Described → Verdict Described
-described_says (IsDescribed code count from end) = accept (record { code = code; count = count; from = from; end = end })
-described_says NotDescribed = refuse 6
+abbrev pub described_says : Option D.Described → Verdict Described
+described_says (Some d) = accept (record { code = d.code; count = d.count; from = d.from; end = d.end })
+described_says None = refuse 6
 
 -- ---- a performative
 
-abbrev pub channel_says : RemoteChannel → List ℕ
-channel_says NoChannel = []
-channel_says (IsChannel n) = n ∷ []
+abbrev pub channel_says : Option ℕ → List ℕ
+channel_says None = []
+channel_says (Some n) = n ∷ []
 
-abbrev pub condition_says : Condition → List ℕ
-condition_says NoCondition = []
-condition_says (At from len) = from ∷ len ∷ []
+abbrev pub condition_says : Option Condition → List ℕ
+condition_says None = []
+condition_says (Some c) = c.from ∷ c.len ∷ []
 
 -- the number of its descriptor, and what it says
 abbrev pub performative_says : P.Performative → ℕ × List ℕ
@@ -67,6 +57,6 @@ performative_says (Detach condition) = (22, condition_says condition)
 performative_says (End condition) = (23, condition_says condition)
 performative_says (Close condition) = (24, condition_says condition)
 
-abbrev pub body_says : Body → Verdict Said
-body_says (IsBody p end) = accept (record { code = (performative_says p).0; end = end; values = (performative_says p).1 })
-body_says NoBody = refuse 6
+abbrev pub body_says : Option Body → Verdict Said
+body_says (Some b) = accept (record { code = (performative_says b.performative).0; end = b.end; values = (performative_says b.performative).1 })
+body_says None = refuse 6

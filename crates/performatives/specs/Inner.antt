@@ -1,29 +1,19 @@
 -- What the private functions promise each other. No public promise speaks of these.
 -- Assumes nothing: these are definitions.
-use Rattle.std.specs.Prelude.{ℕ, zero, suc, ◌+◌, ◌-◌, ◌*◌, ◌/◌, ◌%◌, ◌^◌, ◌<◌, ◌≤◌, ◌≡◌, Bool, false, cond, ◌&&◌, List, [], ◌∷◌, length, take, drop, get_or, leb, eqb}
-use Rattle.std.proofs.Math.Option.{Option, none, some}
+use Rattle.std.specs.Prelude.{ℕ, zero, suc, ◌+◌, ◌-◌, ◌*◌, ◌/◌, ◌%◌, ◌^◌, ◌<◌, ◌≤◌, ◌≡◌, Bool, false, cond, ◌&&◌, List, [], ◌∷◌, length, take, drop, get_or, leb, eqb, Option, None, Some}
 use Rattle.octets.specs.Verdict.{Verdict, refuse, accept, and_then}
 use Rattle.octets.specs.Octets.{starts_with}
 use Rattle.values.specs.Value.{value_end}
-use Rattle.values.specs.Null.{null}
+use Rattle.values.specs.Null.{or_null}
 use Rattle.performatives.specs.declared.composite.Items as I
-use Rattle.performatives.specs.declared.composite.Items.TheVariants.{List as IsList, Malformed as NoList}
-use Rattle.performatives.specs.declared.composite.Descriptor.{Descriptor}
-use Rattle.performatives.specs.declared.composite.Descriptor.TheVariants.{Ulong, Malformed as NoUlong}
-use Rattle.performatives.specs.declared.fields.Fitting.{Fitting}
-use Rattle.performatives.specs.declared.fields.Fitting.TheVariants.{Fit, Unfit}
 use Rattle.performatives.specs.Fields.{Field, Any, UShort, UInt, String, Error, may, must, defaults, fields_of, field_at}
 use Rattle.performatives.specs.Performative.{Items, fits, fit, fields_by, number_or}
 
 -- ---- a described list
 
-abbrev pub items_says : I.Items → Verdict Items
-items_says (IsList count from end) = accept (record { count = count; from = from; end = end })
-items_says NoList = refuse 6
-
-abbrev pub descriptor_says : Descriptor → Verdict (ℕ × ℕ)
-descriptor_says (Ulong code end) = accept (code, end)
-descriptor_says NoUlong = refuse 6
+abbrev pub items_says : Option I.Items → Verdict Items
+items_says (Some l) = accept (record { count = l.count; from = l.from; end = l.end })
+items_says None = refuse 6
 
 -- 00, a ulong of one byte, the code of a list with a size of one byte, and two bytes after it
 unfoldable pub is_short : List ℕ → Bool
@@ -32,16 +22,16 @@ is_short s = leb 6 (length s) && (eqb (get_or s 0 0) 0 && (eqb (get_or s 1 0) 0x
 -- ---- fields
 
 abbrev pub rows_in : Option (List Field) → List Field
-rows_in none = []
-rows_in (some rows) = rows
+rows_in None = []
+rows_in (Some rows) = rows
 
 -- the fields of a performative from field i on
 unfoldable pub rows_from : ℕ → ℕ → List Field
 rows_from code i = drop i (rows_in (fields_of code))
 
 unfoldable pub row_in : List (ℕ × Field) → ℕ → Option Field
-row_in [] n = none
-row_in (r ∷ rs) n = cond (eqb n r.0) (some r.1) (row_in rs n)
+row_in [] n = None
+row_in (r ∷ rs) n = cond (eqb n r.0) (Some r.1) (row_in rs n)
 
 -- the row that a letter stands for
 unfoldable pub row_named : ℕ → Option Field
@@ -58,8 +48,8 @@ pub record RowsIn (code word : ℕ) : Type 0 where
 
 -- whether a value may stand in a field, if there is such a field
 unfoldable pub suits : Option Field → List ℕ → Bool
-suits none f = false
-suits (some r) f = fits r.type r.mandatory f
+suits None f = false
+suits (Some r) f = fits r.type r.mandatory f
 
 -- ---- the values of a list, found one after the other
 
@@ -80,17 +70,9 @@ skip (suc i) s = next s (skip i s)
 unfoldable pub item : ℕ → List ℕ → List ℕ
 item i s = take (next s (skip i s) - skip i s) (drop (skip i s) s)
 
-abbrev pub or_null : List ℕ → List ℕ
-or_null [] = null
-or_null (b ∷ s) = b ∷ s
-
 -- field i; one that is missing is null
 unfoldable pub value_at : ℕ → List ℕ → List ℕ
 value_at i s = or_null (item i s)
-
-abbrev pub fitting_says : Fitting → Verdict ℕ
-fitting_says (Fit last) = accept last
-fitting_says Unfit = refuse 6
 
 -- where the last field of a performative begins, if the values of a list may stand in its fields
 unfoldable pub last_of : ℕ → ℕ → List ℕ → Verdict ℕ

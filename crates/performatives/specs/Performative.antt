@@ -1,7 +1,6 @@
 -- A performative, read from the body of a frame: Part 1 section 1.4 (composite types) and Part 2 section 2.7, as document 01 has them checked.
 -- Where a rule refuses, it refuses with 6. Assumes nothing: these are definitions.
-use Rattle.std.specs.Prelude.{ℕ, zero, suc, ◌+◌, ◌-◌, Bool, true, false, cond, ◌&&◌, not, List, [], ◌∷◌, length, take, drop, get_or, leb, eqb}
-use Rattle.std.proofs.Math.Option.{Option, none, some}
+use Rattle.std.specs.Prelude.{ℕ, zero, suc, ◌+◌, ◌-◌, Bool, true, false, cond, ◌&&◌, not, List, [], ◌∷◌, length, take, drop, get_or, leb, eqb, Option, None, Some}
 use Rattle.octets.specs.Verdict.{Verdict, refuse, accept, require, and_then}
 use Rattle.octets.specs.Octets.{big_endian, starts_with}
 use Rattle.values.specs.Value.{list, opening, value_end}
@@ -108,8 +107,8 @@ pub record Performative : Type 0 where
   pub end : ℕ
 
 unfoldable pub rows_for : Option (List Field) → Verdict (List Field)
-rows_for none = refuse 6
-rows_for (some rows) = accept rows
+rows_for None = refuse 6
+rows_for (Some rows) = accept rows
 
 -- the performative whose fields are the bytes of a described list
 unfoldable pub performative_by : Described → List ℕ → Verdict Performative

@@ -1,14 +1,14 @@
 // The table of fields, and whether the values of a list may stand in the fields of a performative.
 ghost use Rattle.std.specs.Prelude.{◌≡◌};
-ghost use Rattle.std.proofs.Math.Option.{some};
+ghost use Rattle.values.specs.Answers.{well_formed};
 ghost use Rattle.performatives.specs.Fields.{may, must, defaults};
 ghost use Rattle.performatives.specs.Performative.{fits};
-ghost use Rattle.performatives.specs.Answers.{type_says, row_says};
-ghost use Rattle.performatives.specs.Inner.{row_named, RowsIn, suits, fitting_says, last_of};
+ghost use Rattle.performatives.specs.Answers.{type_says, field_says, row_says};
+ghost use Rattle.performatives.specs.Inner.{row_named, RowsIn, suits, last_of};
 
 use crate::composite::starts_with;
 use crate::error::is_error;
-use crate::{Default, FieldType, Row};
+use crate::{Field, FieldType};
 use values::DEPTH;
 
 // The letters of the words below: what a field is. One that is mandatory begins with MUST, and in one that ends with MAX null stands for the greatest number.
@@ -50,51 +50,51 @@ pub(crate) fn rows_of(code: u64) -> u64
     }
 }
 
-fn may(kind: FieldType) -> Row
-    ensures { row_says result ≡ some (may (type_says kind)) }
+fn may(kind: FieldType) -> Field
+    ensures { field_says result ≡ may (type_says kind) }
 {
-    Row::Field {
+    Field {
         kind,
         mandatory: false,
-        default: Default::Null,
+        default: None,
     }
 }
 
-fn must(kind: FieldType) -> Row
-    ensures { row_says result ≡ some (must (type_says kind)) }
+fn must(kind: FieldType) -> Field
+    ensures { field_says result ≡ must (type_says kind) }
 {
-    Row::Field {
+    Field {
         kind,
         mandatory: true,
-        default: Default::Null,
+        default: None,
     }
 }
 
-fn defaults(kind: FieldType, n: u32) -> Row
-    ensures { row_says result ≡ some (defaults (type_says kind) n) }
+fn defaults(kind: FieldType, n: u32) -> Field
+    ensures { field_says result ≡ defaults (type_says kind) n }
 {
-    Row::Field {
+    Field {
         kind,
         mandatory: false,
-        default: Default::Number(n),
+        default: Some(n),
     }
 }
 
-// The row that a letter stands for.
-pub(crate) fn row_named(letter: u64) -> Row
+// The row that a letter stands for; there is none past the last field.
+pub(crate) fn row_named(letter: u64) -> Option<Field>
     ensures { row_says result ≡ row_named letter }
 {
     match letter {
-        ANY => may(FieldType::Any),
-        STRING => may(FieldType::String),
-        MUST_STRING => must(FieldType::String),
-        UINT => may(FieldType::UInt),
-        MUST_UINT => must(FieldType::UInt),
-        UINT_OR_MAX => defaults(FieldType::UInt, 4294967295),
-        USHORT => may(FieldType::UShort),
-        USHORT_OR_MAX => defaults(FieldType::UShort, 65535),
-        ERROR => may(FieldType::Error),
-        _ => Row::Past,
+        ANY => Some(may(FieldType::Any)),
+        STRING => Some(may(FieldType::String)),
+        MUST_STRING => Some(must(FieldType::String)),
+        UINT => Some(may(FieldType::UInt)),
+        MUST_UINT => Some(must(FieldType::UInt)),
+        UINT_OR_MAX => Some(defaults(FieldType::UInt, 4294967295)),
+        USHORT => Some(may(FieldType::UShort)),
+        USHORT_OR_MAX => Some(defaults(FieldType::UShort, 65535)),
+        ERROR => Some(may(FieldType::Error)),
+        _ => None,
     }
 }
 
@@ -118,58 +118,44 @@ fn fits(f: &[u8], kind: FieldType, mandatory: bool) -> bool
 fn suits(f: &[u8], letter: u64) -> bool
     ensures { result ≡ suits (row_named letter) f.now }
 {
-    let Row::Field {
-        kind,
-        mandatory,
-        default: _,
-    } = row_named(letter)
-    else {
+    let Some(field) = row_named(letter) else {
         return false;
     };
-    fits(f, kind, mandatory)
+    fits(f, field.kind, field.mandatory)
 }
 
-// Where the last of the values begins that may stand in the fields of a performative (0 where there is none).
-#[derive(Clone, Copy)]
-pub(crate) enum Fitting {
-    Fit { last: usize },
-    Unfit,
-}
-
-// Whether the `count` values that have to fill `s` may stand in the fields of a performative, and where the last of them begins. Of a value in a field of any
-// type only its end is looked for.
-pub(crate) fn fields(s: &[u8], code: u64, count: u32) -> Fitting
-    ensures { fitting_says result ≡ last_of code count s.now }
+// Where the last of the `count` values begins that have to fill `s` (0 where there is none); nothing where they may not stand in the fields of a performative.
+// Of a value in a field of any type only its end is looked for.
+pub(crate) fn fields(s: &[u8], code: u64, count: u32) -> Option<usize>
+    ensures { well_formed result ≡ last_of code count s.now }
 {
     if 14 < count {
-        return Fitting::Unfit;
+        return None;
     }
     let word = rows_of(code);
     let mut rows = word;
     let mut at: usize = 0;
     let mut last: usize = 0;
-    let mut i: u32 = 0;
-    while i < count {
+    for _i in 0..count {
         let end = values::end_at(s, at, DEPTH);
         if end == 0 {
-            return Fitting::Unfit;
+            return None;
         }
         let letter = rows % 16;
         if letter != ANY {
             if !suits(&s[at..end], letter) {
-                return Fitting::Unfit;
+                return None;
             }
         }
         rows = rows / 16;
         last = at;
         at = end;
-        i += 1;
     }
     if (count as u64) < word >> 56 {
-        return Fitting::Unfit;
+        return None;
     }
     if at != s.len() {
-        return Fitting::Unfit;
+        return None;
     }
-    Fitting::Fit { last }
+    Some(last)
 }

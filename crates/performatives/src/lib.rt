@@ -14,13 +14,15 @@ ghost use Rattle.performatives.specs.Performative.{described, number_of, perform
 ghost use Rattle.performatives.specs.Answers.{row_says, described_says, channel_says, performative_says, body_says};
 ghost use Rattle.performatives.specs.Inner.{value_at, open_says};
 
+pub use composite::starts_with;
 use composite::{any_described, is_short};
 use error::condition_in;
-use fields::{Fitting, fields, row_named, rows_of};
-use values_of::{is_null, item, next, number_in, skip};
+use fields::{fields, row_named, rows_of};
+use values::is_null;
+use values_of::{item, next, number_in, skip};
 
 // The type of a field. The value of an `Any` field is not looked into.
-#[derive(Clone, Copy)]
+#[derive(Clone, Copy, Debug, PartialEq, Eq)]
 pub enum FieldType {
     Any,
     UShort,
@@ -29,102 +31,79 @@ pub enum FieldType {
     Error,
 }
 
-// What null in a field stands for.
-#[derive(Clone, Copy)]
-pub enum Default {
-    Null,
-    Number(u32),
+// What the table says of a field. Null in it stands for the number `default`, if there is one.
+#[derive(Clone, Copy, Debug, PartialEq, Eq)]
+pub struct Field {
+    pub kind: FieldType,
+    pub mandatory: bool,
+    pub default: Option<u32>,
 }
 
-// What the table says of a field; past the last field of a performative, and where there is no such performative, nothing.
-#[derive(Clone, Copy)]
-pub enum Row {
-    Field {
-        kind: FieldType,
-        mandatory: bool,
-        default: Default,
-    },
-    Past,
-}
-
-// A descriptor and a list.
-#[derive(Clone, Copy)]
-pub enum Described {
-    List {
-        code: u64,
-        count: u32,
-        from: usize,
-        end: usize,
-    },
-    Malformed,
-}
-
-#[derive(Clone, Copy)]
-pub enum RemoteChannel {
-    Absent,
-    Is(u16),
+// A descriptor and a list: the descriptor's number, how many values the list has, and from where to where they lie.
+#[derive(Clone, Copy, Debug, PartialEq, Eq)]
+pub struct Described {
+    pub code: u64,
+    pub count: u32,
+    pub from: usize,
+    pub end: usize,
 }
 
 // The condition of an error: where its text begins in the body, and how long it is.
-#[derive(Clone, Copy)]
-pub enum Condition {
-    Absent,
-    At { from: usize, len: usize },
+#[derive(Clone, Copy, Debug, PartialEq, Eq)]
+pub struct Condition {
+    pub from: usize,
+    pub len: usize,
 }
 
-// An idle-time-out of zero is none.
-#[derive(Clone, Copy)]
+// A Begin has its remote-channel, and a Detach, an End and a Close have their error's condition, if any. An idle-time-out of zero is none.
+#[derive(Clone, Copy, Debug, PartialEq, Eq)]
 pub enum Performative {
     Open {
         max_frame_size: u32,
         channel_max: u16,
         idle_time_out: u32,
     },
-    Begin(RemoteChannel),
+    Begin(Option<u16>),
     Attach,
     Flow,
     Transfer,
     Disposition,
-    Detach(Condition),
-    End(Condition),
-    Close(Condition),
+    Detach(Option<Condition>),
+    End(Option<Condition>),
+    Close(Option<Condition>),
 }
 
 // A performative, and where it ends in the body.
-#[derive(Clone, Copy)]
-pub enum Body {
-    Is {
-        performative: Performative,
-        end: usize,
-    },
-    Malformed,
+#[derive(Clone, Copy, Debug, PartialEq, Eq)]
+pub struct Body {
+    pub performative: Performative,
+    pub end: usize,
 }
 
-// The row of field `i` of the performative with this descriptor.
-pub fn field_row(code: u64, i: usize) -> Row
+// The row of field `i` of the performative with this descriptor. There is none past its last field, and where there is no such performative.
+pub fn field_row(code: u64, i: usize) -> Option<Field>
     ensures { row_says result ≡ field_at code i }
 {
     if 14 <= i {
-        return Row::Past;
+        return None;
     }
     row_named((rows_of(code) >> (4 * i)) % 16)
 }
 
-// A descriptor and a list at the front of `s`: the descriptor's number, how many values the list has, and from where to where they lie. At once where the
-// descriptor and the size have one byte each, as most do.
-pub fn described_list(s: &[u8]) -> Described
+// A descriptor and a list at the front of `s`. At once where the descriptor and the size have one byte each, as most do.
+pub fn described_list(s: &[u8]) -> Option<Described>
     ensures { described_says result ≡ described s.now }
 {
     if is_short(s) {
         let size = octets::wide(s[4]) as usize;
         if 0 < size {
             if size <= s.len() - 5 {
-                return Described::List {
+                return Some(Described {
                     code: octets::wide(s[2]),
                     count: octets::wide(s[5]) as u32,
                     from: 6,
                     end: 5 + size,
-                };
+                });
             }
         }
     }
@@ -150,25 +129,23 @@ fn open(s: &[u8]) -> Performative
     }
 }
 
-fn remote_channel(s: &[u8]) -> RemoteChannel
+fn remote_channel(s: &[u8]) -> Option<u16>
     requires { length (value_at 0 s.now) ≤ 3 }
     ensures { channel_says result ≡ when_not (is_null (value_at 0 s.now)) (number_of (value_at 0 s.now) ∷ []) }
 {
     let f = item(s, 0);
     if is_null(f) {
-        return RemoteChannel::Absent;
+        return None;
     }
-    RemoteChannel::Is(octets::number(&f[1..]) as u16)
+    Some(octets::number(&f[1..]) as u16)
 }
 
 // A performative by its descriptor and its fields, which are `count` values that fill `s`. They lie from place `from` to place `end` of the body.
-fn performative_in(s: &[u8], code: u64, count: u32, from: usize, end: usize) -> Body
+fn performative_in(s: &[u8], code: u64, count: u32, from: usize, end: usize) -> Option<Body>
     requires { from + length s.now < 2 ^ 64 }
     ensures { body_says result ≡ and_then (performative_by (record { code = code; count = count; from = from; end = end }) s.now) (λ p. accept (said p)) }
 {
-    let Fitting::Fit { last } = fields(s, code, count) else {
-        return Body::Malformed;
-    };
+    let last = fields(s, code, count)?;
     let performative = match code {
         16 => open(s),
         17 => Performative::Begin(remote_channel(s)),
@@ -179,23 +156,20 @@ fn performative_in(s: &[u8], code: u64, count: u32, from: usize, end: usize) -> 
         22 => Performative::Detach(condition_in(s, 2, count, last, from)),
         23 => Performative::End(condition_in(s, 0, count, last, from)),
         24 => Performative::Close(condition_in(s, 0, count, last, from)),
-        _ => return Body::Malformed,
+        _ => return None,
     };
-    Body::Is { performative, end }
+    Some(Body { performative, end })
 }
 
 // The performative that a frame's body starts with, and where it ends. What stands after it is not looked at.
-pub fn read(body: &[u8]) -> Body
+pub fn read(body: &[u8]) -> Option<Body>
     ensures { body_says result ≡ performative_said body.now }
 {
-    let Described::List {
+    let Described {
         code,
         count,
         from,
         end,
-    } = described_list(body)
-    else {
-        return Body::Malformed;
-    };
+    } = described_list(body)?;
     performative_in(&body[from..end], code, count, from, end)
 }

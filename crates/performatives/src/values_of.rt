@@ -1,9 +1,8 @@
 // The values of a list, found one after the other, and the number in one.
 ghost use Rattle.std.specs.Prelude.{◌≡◌, ◌-◌, ◌≤◌, length, take, drop};
-ghost use Rattle.values.specs.Null.{is_null};
-ghost use Rattle.performatives.specs.Inner.{next, skip, item, or_null, NumberRead};
+ghost use Rattle.values.specs.Null.{or_null};
+ghost use Rattle.performatives.specs.Inner.{next, skip, item, NumberRead};
 
-use crate::composite::starts_with;
 use values::DEPTH;
 
 // The place after the value at a place; the place itself where there is none.
@@ -22,10 +21,8 @@ pub(crate) fn skip(s: &[u8], i: usize) -> usize
     ensures { result ≡ skip i s.now }
 {
     let mut at: usize = 0;
-    let mut k: usize = 0;
-    while k < i {
+    for _k in 0..i {
         at = next(s, at);
-        k += 1;
     }
     at
 }
@@ -37,16 +34,6 @@ pub(crate) fn item(s: &[u8], i: usize) -> &[u8]
     let at = skip(s, i);
     let end = next(s, at);
     &s[at..end]
-}
-
-// A field that is missing is null.
-pub(crate) fn is_null(f: &[u8]) -> bool
-    ensures { result ≡ is_null (or_null f.now) }
-{
-    if f.len() == 0 {
-        return true;
-    }
-    starts_with(f, &[0x40])
 }
 
 // The number in the field between two places, or another in the place of null. A field that is missing is null.

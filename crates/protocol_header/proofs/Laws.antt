@@ -4,6 +4,7 @@
 use mathlib.Core.Path.{◌≡◌, refl, ap, ◌∙◌}
 use mathlib.Core.Bool.{Bool, true, false, ◌&&◌, false≢true, and-eq-true_iff}
 use mathlib.Core.List.{List, [], ◌∷◌, ◌++◌}
+use Rattle.std.specs.Prelude.{Result, Ok, Err}
 use Prim.Native.Nat.{ℕ, zero, suc, ◌<◌, ◌≤◌}
 use native.Mathlib.Omega.{arith}
 use lib.ListN.{length, get_or, take, length-append, get_or-append}
@@ -12,14 +13,16 @@ use lib.Dec.{eqb}
 use borrow.Author.Tests.{le-leb, leb-true, eqb-true}
 use Rattle.octets.specs.Verdict.{Verdict, accept, require, and_then}
 use Rattle.octets.specs.Output.{room_for, laid}
+use Rattle.octets.specs.declared.Refusal.{Refusal}
 use Rattle.octets.proofs.Laws.{require_was}
+use Rattle.octets.proofs.Refusals.{same_refusal}
+use Rattle.std.specs.Prelude.{Result, Ok, Err}
 use Rattle.protocol_header.specs.declared.ProtocolHeader.{ProtocolHeader as HeaderStruct}
 use Rattle.protocol_header.specs.declared.ProtocolId.{ProtocolId}
 use Rattle.protocol_header.specs.declared.ProtocolId.TheVariants.{Amqp, Tls, Sasl}
-use Rattle.protocol_header.specs.declared.IdRead.{IdRead}
-use Rattle.protocol_header.specs.declared.IdRead.TheVariants.{Id, Unknown}
+use Rattle.protocol_header.specs.declared.UnknownProtocolId.{UnknownProtocolId}
 use Rattle.protocol_header.specs.declared.HeaderRead.{HeaderRead}
-use Rattle.protocol_header.specs.declared.HeaderRead.TheVariants.{Amqp as Amqp100, Other, Malformed, Missing}
+use Rattle.protocol_header.specs.declared.HeaderRead.TheVariants.{Amqp as Amqp100, Other}
 use Rattle.protocol_header.specs.Header.{ProtocolHeader, prefix, is_protocol_id, protocol_id, starts_with_all, header, header_bytes, write_header}
 use Rattle.protocol_header.specs.Answers.{id_number, header_of, id_says, header_says}
 
@@ -132,12 +135,12 @@ same_number Tls Sasl e = absurd (omega arith)
 same_number Sasl Amqp e = absurd (omega arith)
 same_number Sasl Tls e = absurd (omega arith)
 
-pub same_id : (a b : IdRead) → id_says a ≡ id_says b → a ≡ b
+pub same_id : (a b : Result ProtocolId UnknownProtocolId) → id_says a ≡ id_says b → a ≡ b
 unfolding id_says
-same_id (Id i) (Id j) e = ap Id (same_number i j (cc))
-same_id Unknown Unknown e = refl
-same_id (Id i) Unknown e = apart (cc)
-same_id Unknown (Id j) e = apart (cc)
+same_id (Ok i) (Ok j) e = ap Ok (same_number i j (cc))
+same_id (Err a) (Err b) e = refl
+same_id (Ok i) (Err b) e = apart (cc)
+same_id (Err a) (Ok j) e = apart (cc)
 
 made_same : {i j : ProtocolId} {a b x y m n : ℕ} → i ≡ j → a ≡ b → x ≡ y → m ≡ n → ◌≡◌ {A = HeaderStruct} (record { id = i; major = a; minor = x; revision = m }) (record { id = j; major = b; minor = y; revision = n })
 made_same p q r t = cc
@@ -150,21 +153,14 @@ same_header a b e =
     (ap (λ (h : ProtocolHeader). h.minor) e)
     (ap (λ (h : ProtocolHeader). h.revision) e)
 
-pub same_answer : (a b : HeaderRead) → header_says a ≡ header_says b → a ≡ b
+pub same_answer : (a b : Result HeaderRead Refusal) → header_says a ≡ header_says b → a ≡ b
 unfolding header_says
-same_answer Amqp100 Amqp100 e = refl
-same_answer (Other h) (Other x) e = ap Other (same_header h x (cc))
-same_answer Malformed Malformed e = refl
-same_answer Missing Missing e = refl
-same_answer Amqp100 (Other x) e = apart (cc)
-same_answer Amqp100 Malformed e = apart (cc)
-same_answer Amqp100 Missing e = apart (cc)
-same_answer (Other h) Amqp100 e = apart (cc)
-same_answer (Other h) Malformed e = apart (cc)
-same_answer (Other h) Missing e = apart (cc)
-same_answer Malformed Amqp100 e = apart (cc)
-same_answer Malformed (Other x) e = apart (cc)
-same_answer Malformed Missing e = apart (cc)
-same_answer Missing Amqp100 e = apart (cc)
-same_answer Missing (Other x) e = apart (cc)
-same_answer Missing Malformed e = apart (cc)
+same_answer (Ok Amqp100) (Ok Amqp100) e = refl
+same_answer (Ok (Other h)) (Ok (Other x)) e = ap (λ (y : HeaderStruct). Ok (Other y)) (same_header h x (cc))
+same_answer (Err k) (Err l) e = ap Err (same_refusal k l (cc))
+same_answer (Ok Amqp100) (Ok (Other x)) e = apart (cc)
+same_answer (Ok (Other h)) (Ok Amqp100) e = apart (cc)
+same_answer (Ok Amqp100) (Err l) e = apart (cc)
+same_answer (Ok (Other h)) (Err l) e = apart (cc)
+same_answer (Err k) (Ok Amqp100) e = apart (cc)
+same_answer (Err k) (Ok (Other x)) e = apart (cc)

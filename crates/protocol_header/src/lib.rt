@@ -3,10 +3,10 @@
 
 ghost use Rattle.std.specs.Prelude.{◌≡◌};
 ghost use Rattle.octets.specs.Output.{Wrote};
-ghost use Rattle.protocol_header.specs.Header.{protocol_id, starts_with_all, is_amqp100, received, version100, has_id, header_bytes, write_header};
+ghost use Rattle.protocol_header.specs.Header.{protocol_id, is_amqp100, received, version100, has_id, header_bytes, write_header};
 ghost use Rattle.protocol_header.specs.Answers.{id_number, header_of, id_says, header_says};
 
-use octets::Written;
+use octets::Refusal;
 
 // "AMQP"
 const PROTOCOL_HEADER_PREFIX: [u8; 4] = [0x41, 0x4D, 0x51, 0x50];
@@ -15,12 +15,16 @@ const PROTOCOL_HEADER_PREFIX: [u8; 4] = [0x41, 0x4D, 0x51, 0x50];
 const OUTPUT_ROOM: usize = 16384;
 
 // Protocol ID
-#[derive(Clone, Copy)]
+#[derive(Clone, Copy, Debug, PartialEq, Eq)]
 pub enum ProtocolId {
     Amqp,
     Tls,
     Sasl,
 }
+
+// A byte of the wire that is no protocol id.
+#[derive(Clone, Copy, Debug, PartialEq, Eq)]
+pub struct UnknownProtocolId;
 
 // Protocol header
 #[derive(Clone, Copy)]
@@ -31,42 +35,39 @@ pub struct ProtocolHeader {
     pub revision: u8,
 }
 
-// The protocol id that a number is.
-#[derive(Clone, Copy)]
-pub enum IdRead {
-    Id(ProtocolId),
-    Unknown,
-}
-
-// What bytes are as a header: that of AMQP 1.0.0, that of another protocol or version, none, or fewer bytes than one has.
+// What a header is: that of AMQP 1.0.0, or that of another protocol or version.
 #[derive(Clone, Copy)]
 pub enum HeaderRead {
     Amqp,
     Other(ProtocolHeader),
-    Malformed,
-    Missing,
 }
 
 // The number of a protocol id on the wire.
-pub fn id_number(id: ProtocolId) -> u8
-    ensures { result ≡ id_number id }
-{
-    match id {
-        ProtocolId::Amqp => 0,
-        ProtocolId::Tls => 2,
-        ProtocolId::Sasl => 3,
+impl From<ProtocolId> for u8 {
+    ghost from_gives = { λ id n. n ≡ id_number id };
+
+    fn from(id: ProtocolId) -> u8 {
+        match id {
+            ProtocolId::Amqp => 0,
+            ProtocolId::Tls => 2,
+            ProtocolId::Sasl => 3,
+        }
     }
 }
 
 // The protocol id that a byte of the wire is.
-pub fn id_from(n: u8) -> IdRead
-    ensures { id_says result ≡ protocol_id n }
-{
-    match n {
-        0 => IdRead::Id(ProtocolId::Amqp),
-        2 => IdRead::Id(ProtocolId::Tls),
-        3 => IdRead::Id(ProtocolId::Sasl),
-        _ => IdRead::Unknown,
+impl TryFrom<u8> for ProtocolId {
+    type Error = UnknownProtocolId;
+
+    ghost try_from_gives = { λ n r. id_says r ≡ protocol_id n };
+
+    fn try_from(n: u8) -> Result<ProtocolId, UnknownProtocolId> {
+        match n {
+            0 => Ok(ProtocolId::Amqp),
+            2 => Ok(ProtocolId::Tls),
+            3 => Ok(ProtocolId::Sasl),
+            _ => Err(UnknownProtocolId),
+        }
     }
 }
 
@@ -115,7 +116,7 @@ impl ProtocolHeader {
         ensures { result ≡ has_id n (header_of self) }
     {
         let id = self.id;
-        id_number(id) == n
+        u8::from(id) == n
     }
 
     // Returns whether the protocol id is AMQP
@@ -168,7 +169,7 @@ impl ProtocolHeader {
             PROTOCOL_HEADER_PREFIX[1],
             PROTOCOL_HEADER_PREFIX[2],
             PROTOCOL_HEADER_PREFIX[3],
-            id_number(id),
+            u8::from(id),
             self.major,
             self.minor,
             self.revision,
@@ -176,51 +177,34 @@ impl ProtocolHeader {
     }
 }
 
-// Whether the bytes of s start with those of p.
-fn starts_with_all(s: &[u8], p: &[u8]) -> bool
-    ensures { result ≡ starts_with_all p.now s.now }
-{
-    if s.len() < p.len() {
-        return false;
-    }
-    let mut i: usize = 0;
-    while i < p.len() {
-        if s[i] != p[i] {
-            return false;
-        }
-        i += 1;
-    }
-    true
-}
-
 // Reads the header that the bytes start with. Those after the eighth are not looked at.
-pub fn read(s: &[u8]) -> HeaderRead
+pub fn read(s: &[u8]) -> Result<HeaderRead, Refusal>
     ensures { header_says result ≡ received s.now }
 {
     if s.len() < 8 {
-        return HeaderRead::Missing;
+        return Err(Refusal::BytesMissing);
     }
-    if !starts_with_all(s, &PROTOCOL_HEADER_PREFIX) {
-        return HeaderRead::Malformed;
+    if !s.starts_with(&PROTOCOL_HEADER_PREFIX) {
+        return Err(Refusal::HeaderMalformed);
     }
-    let IdRead::Id(id) = id_from(s[4]) else {
-        return HeaderRead::Malformed;
+    let Ok(id) = ProtocolId::try_from(s[4]) else {
+        return Err(Refusal::HeaderMalformed);
     };
     let h = ProtocolHeader::new(id, s[5], s[6], s[7]);
     if h.is_amqp100() {
-        return HeaderRead::Amqp;
+        return Ok(HeaderRead::Amqp);
     }
-    HeaderRead::Other(h)
+    Ok(HeaderRead::Other(h))
 }
 
 // Writes the header to the front of the lent output. Its other bytes stay as they are.
-pub fn write(h: ProtocolHeader, out: &mut [u8]) -> Written
+pub fn write(h: ProtocolHeader, out: &mut [u8]) -> Result<usize, Refusal>
     ensures { Wrote (write_header (header_of h) out.old) result out.old out.new }
 {
     if out.len() < OUTPUT_ROOM {
-        return Written::Refused(9);
+        return Err(Refusal::NoRoom);
     }
     let bytes = h.bytes();
     octets::copy(out, 0, &bytes);
-    Written::Bytes(8)
+    Ok(8)
 }

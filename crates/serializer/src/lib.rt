@@ -86,7 +86,7 @@ pub fn put_text(out: &mut [u8], at: usize, kind: Text, bs: &[u8])
 }
 
 // The number of bytes before the fields of a described list with `count` fields, which take `size` bytes.
-pub fn composite_header_len(count: u8, size: u32, code: u8) -> usize
+pub fn composite_header_len(count: usize, size: usize, code: u8) -> usize
     ensures { (result ≡ length (composite_header code count size)) × (result ≤ 12) }
 {
     if count == 0 {

@@ -1,9 +1,9 @@
 -- Fields that are written as they are: which performatives have only such, and what is kept of them, which is one part of the bytes that they lie in.
 -- Assumes nothing.
 use mathlib.Core.Path.{◌≡◌, refl, sym, ap, ◌∙◌, subst}
-use mathlib.Core.Bool.{Bool, true, false, cond, ◌&&◌}
+use mathlib.Core.Bool.{Bool, true, false, cond, ◌&&◌, or-false}
 use mathlib.Core.List.{List, [], ◌∷◌, ◌++◌, append-nil}
-use mathlib.Core.Option.{Option, none, some}
+use Rattle.std.specs.Prelude.{Option, None, Some}
 use Prim.Native.Nat.{ℕ, zero, suc, ◌+◌, ◌-◌, ◌<◌, ◌≤◌}
 use native.Mathlib.Omega.{arith}
 use lib.ListN.{length, take, drop, get_or, length-append, take-append-drop}
@@ -26,7 +26,6 @@ use Rattle.session_frame.specs.declared.field.Kept.{Kept}
 use Rattle.session_frame.specs.Session.{shortest, default_of, written_as, written_field}
 use Rattle.session_frame.specs.Parts.{first_len, first, rows_in, fields_from, written_from, Checked, is_any, all_any, copied, as_they_are, kept_of}
 use Rattle.session_frame.proofs.Trim.{kept_pair, trimmed_first}
-use Rattle.session_frame.proofs.Steps.{or_false}
 use Rattle.session_frame.proofs.Reading.{first_len_is, first_is, starts_front, null_ends}
 
 -- ---- is_copied
@@ -55,8 +54,8 @@ unfolding among
 copied_high code h = rw (← copied_is code, le-leb _ _ h)
 
 any_rows : (o : Option (List Field)) → copied o ≡ true → all_any (rows_in o) ≡ true
-any_rows none h = let z : ◌≡◌ {A = ℕ} 0 1 = cc in absurd (omega arith)
-any_rows (some rows) h = h
+any_rows None h = let z : ◌≡◌ {A = ℕ} 0 1 = cc in absurd (omega arith)
+any_rows (Some rows) h = h
 
 -- ---- a field
 
@@ -89,8 +88,8 @@ unfolding written_as shortest
 written_any Any default f h n = go (is_null f) refl default
   where
     go : (b : Bool) → is_null f ≡ b → (default : Option ℕ) → cond b (default_of Any default) f ≡ f
-    go true q none = sym (n q)
-    go true q (some m) = sym (n q)
+    go true q None = sym (n q)
+    go true q (Some m) = sym (n q)
     go false q default = refl
 written_any UShort default f h n = let z : ◌≡◌ {A = ℕ} 0 1 = cc in absurd (omega arith)
 written_any UInt default f h n = let z : ◌≡◌ {A = ℕ} 0 1 = cc in absurd (omega arith)
@@ -210,7 +209,7 @@ kept_start count s = let z : count - 0 ≡ count = omega arith in rw z (go (trim
 first_byte : (b n : ℕ) (t : List ℕ) → 1 ≤ n → is_null (take n (b ∷ t)) ≡ eqb b 0x40
 unfolding starts_with
 first_byte b zero t h = absurd (omega arith)
-first_byte b (suc n) t h = or_false (eqb b 0x40)
+first_byte b (suc n) t h = or-false (eqb b 0x40)
 
 module _ (count : ℕ) (s : List ℕ) (at i n len : ℕ) (inv : kept_of (trimmed (as_they_are count s)) ≡ kept_with i at n len (trimmed (as_they_are (count - i) (drop at s)))) where
   -- nothing is kept of what is left

@@ -3,6 +3,7 @@
 use mathlib.Core.Path.{◌≡◌, refl, sym, ap, ◌∙◌, subst}
 use mathlib.Core.Bool.{Bool, true, false, cond}
 use mathlib.Core.List.{List, [], ◌∷◌, ◌++◌}
+use Rattle.std.specs.Prelude.{Option, None, Some}
 use Prim.Native.Nat.{ℕ, zero, suc, ◌+◌, ◌-◌, ◌*◌, ◌^◌, ◌<◌, ◌≤◌}
 use native.Mathlib.Omega.{arith}
 use native.Mathlib.Numerals.{add-one}
@@ -17,25 +18,16 @@ use Rattle.octets.specs.Octets.{starts_with, put}
 use Rattle.octets.proofs.Laws.{then_accept, put_put, length_put}
 use Rattle.values.specs.Value.{value_end}
 use Rattle.values.specs.Null.{null, is_null}
-use Rattle.values.specs.Answers.{ended}
-use Rattle.values.specs.declared.Value.{Value}
-use Rattle.values.specs.declared.Value.TheVariants.{End, Malformed}
 use Rattle.values.proofs.Laws.{value_within}
 use Rattle.values.proofs.Apart.{then_was}
 use Rattle.serializer.specs.Written.{text, joined, before, trimmed, composite_header, composite}
 use Rattle.serializer.proofs.Laws.{text_len_short, text_len_long, header_len_none, header_len_small, header_len_large}
 use Rattle.performatives.specs.Fields.{Error}
 use Rattle.performatives.specs.Performative.{Described, described, split}
-use Rattle.performatives.specs.declared.Described as C
-use Rattle.performatives.specs.declared.Described.TheVariants.{List as Lists, Malformed as NoList}
-use Rattle.performatives.specs.Answers.{described_says}
 use Rattle.session_frame.specs.declared.field.Kept.{Kept}
-use Rattle.session_frame.specs.declared.error.Others.{Others}
-use Rattle.session_frame.specs.declared.error.Others.TheVariants.{Fields, Malformed as NoFields}
 use Rattle.session_frame.specs.declared.error.ErrorParts.{ErrorParts}
-use Rattle.session_frame.specs.declared.error.ErrorParts.TheVariants.{Parts, Malformed as NoParts}
 use Rattle.session_frame.specs.Session.{text_of, error_fields, error_of, shortest}
-use Rattle.session_frame.specs.Parts.{Sized, size_of, kept_of, Room, others_says, others_of, parts_joined, parts_say, Within, PartsOf}
+use Rattle.session_frame.specs.Parts.{Sized, size_of, kept_of, Room, others_of, parts_joined, parts_say, Within, PartsOf}
 use Rattle.session_frame.proofs.Trim.{trimmed_first}
 use Rattle.session_frame.proofs.Steps.{rest, rest_is, text_some, size_is, size_null}
 use Rattle.session_frame.proofs.Split.{split_joined, others_bound}
@@ -111,17 +103,17 @@ module _ (m n : ℕ) (it : List ℕ) (v : value_end 14 it ≡ accept n) where
       let a = then_was (split 14 m (drop n it)) _ k e in
       record { others = a.0; others_are = a.1; all_are = then_accept (value_end 14 it) _ n v ∙ then_accept (split 14 m (drop n it)) _ a.0 a.1; kept = accepted k (kept_of (trimmed a.0)) (sym a.2) }
 
-module _ (f : List ℕ) (r : C.Described) (e : described_says r ≡ described f) where
-  pub parts_none : r ≡ NoList → PartsOf f NoParts
+module _ (f : List ℕ) where
+  pub parts_none : refuse 6 ≡ described f → PartsOf f None
   unfolding parts_say error_fields and_then
-  parts_none q = record { written = rw (← e, q); within = tt }
+  parts_none e = record { written = rw (← e); within = tt }
 
-  module _ (code count from end : ℕ) (q : r ≡ Lists code count from end) where
+  module _ (code count from end : ℕ) (e : accept (record { code = code; count = count; from = from; end = end }) ≡ described f) where
     abbrev listed : Described
     listed = record { code = code; count = count; from = from; end = end }
 
     is_listed : described f ≡ accept listed
-    is_listed = sym e ∙ ap described_says q
+    is_listed = sym e
 
     pub items_from_lem : from ≤ end
     items_from_lem = (described_in f listed is_listed).0
@@ -149,62 +141,61 @@ module _ (f : List ℕ) (r : C.Described) (e : described_says r ≡ described f)
           let c : count ≡ suc (count - 1) = omega (arith, counted.0) in
           ap error_of (fields_are ∙ ap (λ (k : ℕ). split 14 k items) c)
 
-      module _ (v : Value) (ve : ended v ≡ value_end 14 items) where
-        pub parts_value : v ≡ Malformed → PartsOf f NoParts
-        unfolding parts_say split and_then
-        parts_value p = record { written = sym (error_split ∙ rw (← ve, p)); within = tt }
+      pub parts_value : refuse 6 ≡ value_end 14 items → PartsOf f None
+      unfolding parts_say split and_then
+      parts_value v = record { written = sym (error_split ∙ rw (← v)); within = tt }
 
-        module _ (n : ℕ) (p : v ≡ End n) (w : Others) (o : others_says w ≡ others_of (count - 1) (rest items n)) where
-          ends : value_end 14 items ≡ accept n
-          ends = sym ve ∙ ap ended p
+      module _ (n : ℕ) (v : accept n ≡ value_end 14 items) where
+        ends : value_end 14 items ≡ accept n
+        ends = sym v
 
-          pub parts_others : w ≡ NoFields → PartsOf f NoParts
-          unfolding parts_say
-          parts_others x =
-              let y : others_of (count - 1) (drop n items) ≡ refuse 6 = ap (others_of (count - 1)) (sym (rest_is items n)) ∙ sym o ∙ ap others_says x in
-              record { written = sym (error_split ∙ others_refused (count - 1) n items ends y); within = tt }
+        pub parts_others : refuse 6 ≡ others_of (count - 1) (rest items n) → PartsOf f None
+        unfolding parts_say
+        parts_others o =
+            let y : others_of (count - 1) (drop n items) ≡ refuse 6 = ap (others_of (count - 1)) (sym (rest_is items n)) ∙ sym o in
+            record { written = sym (error_split ∙ others_refused (count - 1) n items ends y); within = tt }
 
-          module _ (k : Kept) (x : w ≡ Fields k) where
-            has : Has (count - 1) n items ends k
-            has = others_accepted (count - 1) n items ends k (ap (others_of (count - 1)) (sym (rest_is items n)) ∙ sym o ∙ ap others_says x)
+        module _ (k : Kept) (o : accept k ≡ others_of (count - 1) (rest items n)) where
+          has : Has (count - 1) n items ends k
+          has = others_accepted (count - 1) n items ends k (ap (others_of (count - 1)) (sym (rest_is items n)) ∙ sym o)
 
-            bound : (k.count ≤ count - 1) × (k.len ≤ length (drop n items))
-            bound = others_bound (count - 1) (drop n items) k (ap (others_of (count - 1)) (sym (rest_is items n)) ∙ sym o ∙ ap others_says x)
+          bound : (k.count ≤ count - 1) × (k.len ≤ length (drop n items))
+          bound = others_bound (count - 1) (drop n items) k (ap (others_of (count - 1)) (sym (rest_is items n)) ∙ sym o)
 
-            sizes : (n ≤ end - from) × (n + k.len ≤ end - from)
-            sizes =
-                let l : length items ≡ end - from = length-take-le (end - from) (drop from f) (omega (arith, length-drop from f, items_end)) in
-                let h : n ≤ length items = value_within 14 items n ends in
-                let b : k.len ≤ length (drop n items) = bound.1 in
-                (omega arith, omega (arith, length-drop n items))
+          sizes : (n ≤ end - from) × (n + k.len ≤ end - from)
+          sizes =
+              let l : length items ≡ end - from = length-take-le (end - from) (drop from f) (omega (arith, length-drop from f, items_end)) in
+              let h : n ≤ length items = value_within 14 items n ends in
+              let b : k.len ≤ length (drop n items) = bound.1 in
+              (omega arith, omega (arith, length-drop n items))
 
-            pub end_fits : length f < 2 ^ 64 → Fits w64 (from + n)
-            end_fits h = omega (arith, sizes.0, items_from_lem, items_end)
+          pub end_fits : length f < 2 ^ 64 → Fits w64 (from + n)
+          end_fits h = omega (arith, sizes.0, items_from_lem, items_end)
 
-            kept_bytes : joined (trimmed has.others) ≡ take k.len (drop (from + n) f)
-            unfolding kept_of
-            kept_bytes =
-                let l : length (joined (trimmed has.others)) ≡ k.len = ap (λ (x : Kept). x.len) (sym has.kept) in
-                let j : joined has.others ≡ drop n items = split_joined 14 (count - 1) (drop n items) has.others has.others_are in
-                let m : end - from ≤ length (drop from f) = omega (arith, length-drop from f, items_end) in
-                trimmed_joined has.others
-                ∙ ap (λ (i : ℕ). take i (joined has.others)) l
-                ∙ ap (take k.len) j
-                ∙ part_front n k.len (end - from) (drop from f) sizes.1 m
-                ∙ ap (take k.len) (drop-drop n from f)
+          kept_bytes : joined (trimmed has.others) ≡ take k.len (drop (from + n) f)
+          unfolding kept_of
+          kept_bytes =
+              let l : length (joined (trimmed has.others)) ≡ k.len = ap (λ (x : Kept). x.len) (sym has.kept) in
+              let j : joined has.others ≡ drop n items = split_joined 14 (count - 1) (drop n items) has.others has.others_are in
+              let m : end - from ≤ length (drop from f) = omega (arith, length-drop from f, items_end) in
+              trimmed_joined has.others
+              ∙ ap (λ (i : ℕ). take i (joined has.others)) l
+              ∙ ap (take k.len) j
+              ∙ part_front n k.len (end - from) (drop from f) sizes.1 m
+              ∙ ap (take k.len) (drop-drop n from f)
 
-            condition_bytes : take n items ≡ take ((from + n) - from) (drop from f)
-            condition_bytes =
-                let a : (from + n) - from ≡ n = omega arith in
-                rw a (take-take n (end - from) (drop from f) sizes.0)
+          condition_bytes : take n items ≡ take ((from + n) - from) (drop from f)
+          condition_bytes =
+              let a : (from + n) - from ≡ n = omega arith in
+              rw a (take-take n (end - from) (drop from f) sizes.0)
 
-            pub parts_are : PartsOf f (Parts from (from + n) k.count k.len)
-            unfolding parts_say parts_joined kept_of
-            parts_are =
-                let c : length (trimmed has.others) ≡ k.count = ap (λ (x : Kept). x.count) (sym has.kept) in
-                let q : error_of (split 14 (suc (count - 1)) items) ≡ parts_say f (Parts from (from + n) k.count k.len) =
-                ap error_of has.all_are ∙ error_is (take n items) has.others ∙ rw (kept_bytes, condition_bytes, c) in
-                record { written = sym (error_split ∙ q); within = (omega arith, omega (arith, sizes.1, items_from_lem, items_end), omega (arith, bound.0, counted.1)) }
+          pub parts_are : PartsOf f (Some (record { from = from; end = from + n; count = k.count; len = k.len }))
+          unfolding parts_say parts_joined kept_of
+          parts_are =
+              let c : length (trimmed has.others) ≡ k.count = ap (λ (x : Kept). x.count) (sym has.kept) in
+              let q : error_of (split 14 (suc (count - 1)) items) ≡ parts_say f (Some (record { from = from; end = from + n; count = k.count; len = k.len })) =
+              ap error_of has.all_are ∙ error_is (take n items) has.others ∙ rw (kept_bytes, condition_bytes, c) in
+              record { written = sym (error_split ∙ q); within = (omega arith, omega (arith, sizes.1, items_from_lem, items_end), omega (arith, bound.0, counted.1)) }
 
 -- ---- error_size, put_error, put_error_parts
 
@@ -275,50 +266,50 @@ module _ (d : List ℕ) (at : ℕ) (f : List ℕ) (from end len : ℕ) (room : R
       q ∙ rw (p, a, ne) (put_put (text 163 t) (take len (drop end f)) d at (omega (arith, room.fits)) ∙ rw te)
 
 -- error_size, put_error
-parts_some : (f : List ℕ) (from end count len : ℕ) → false ≡ is_null (parts_say f (Parts from end count len))
+parts_some : (f : List ℕ) (p : ErrorParts) → false ≡ is_null (parts_say f (Some p))
 unfolding parts_say composite_header starts_with
-parts_some f from end count len = refl
+parts_some f p = refl
 
-module _ (f : List ℕ) (r : ErrorParts) (p : PartsOf f r) where
-  pub error_null : r ≡ NoParts → record { len = 1; null = true } ≡ size_of (shortest Error f)
+module _ (f : List ℕ) where
+  pub error_null : PartsOf f None → record { len = 1; null = true } ≡ size_of (shortest Error f)
   unfolding shortest parts_say
-  error_null q = size_null ∙ ap size_of (ap (parts_say f) (sym q) ∙ p.written)
+  error_null p = size_null ∙ ap size_of p.written
 
-  pub error_null_laid : (d o : List ℕ) (at : ℕ) → r ≡ NoParts → o ≡ put d at null → o ≡ put d at (shortest Error f)
+  pub error_null_laid : (d o : List ℕ) (at : ℕ) → PartsOf f None → o ≡ put d at null → o ≡ put d at (shortest Error f)
   unfolding shortest parts_say
-  error_null_laid d o at q e = e ∙ ap (put d at) (ap (parts_say f) (sym q) ∙ p.written)
+  error_null_laid d o at p e = e ∙ ap (put d at) p.written
 
-  module _ (from end count len : ℕ) (q : r ≡ Parts from end count len) where
-    inside : (from ≤ end) × (end + len ≤ length f) × (count ≤ 2)
-    inside = subst (Within (length f)) q p.within
+  module _ (r : ErrorParts) (p : PartsOf f (Some r)) where
+    abbrev said : List ℕ
+    said = parts_joined f r.from r.end r.len
 
-    pub parts_from : from ≤ end
-    parts_from = inside.0
+    pub parts_from : r.from ≤ r.end
+    parts_from = p.within.0
 
-    pub parts_end : end + len ≤ length f
-    parts_end = inside.1
+    pub parts_end : r.end + r.len ≤ length f
+    parts_end = p.within.1
 
-    pub parts_count : Fits w64 (count + 1)
-    parts_count = omega (arith, inside.2)
+    pub parts_count : Fits w64 (r.count + 1)
+    parts_count = omega (arith, p.within.2)
 
-    pub parts_few : Fits w8 (count + 1)
-    parts_few = omega (arith, inside.2)
+    pub parts_few : Fits w8 (r.count + 1)
+    parts_few = omega (arith, p.within.2)
 
-    parts_written : parts_say f (Parts from end count len) ≡ shortest Error f
+    parts_written : parts_say f (Some r) ≡ shortest Error f
     unfolding shortest
-    parts_written = ap (parts_say f) (sym q) ∙ p.written
+    parts_written = p.written
 
-    module _ (n : ℕ) (ne : n ≡ length (parts_joined f from end len)) (c : ℕ) (ce : c ≡ length (composite_header 29 (count + 1) n)) where
-      parts_length : length (parts_say f (Parts from end count len)) ≡ c + n
+    module _ (n : ℕ) (ne : n ≡ length said) (c : ℕ) (ce : c ≡ length (composite_header 29 (r.count + 1) n)) where
+      parts_length : length (parts_say f (Some r)) ≡ c + n
       unfolding parts_say
       parts_length =
-          length-append (composite_header 29 (count + 1) (length (parts_joined f from end len))) (parts_joined f from end len) ∙ rw (← ne, ← ce)
+          length-append (composite_header 29 (r.count + 1) (length said)) said ∙ rw (← ne, ← ce)
 
       pub error_fits : length f * 1 < 2 ^ 63 → Fits w64 (c + n)
-      error_fits g = omega (arith, header_length 29 (count + 1) n, joined_short f from end len inside.1 inside.0)
+      error_fits g = omega (arith, header_length 29 (r.count + 1) n, joined_short f r.from r.end r.len p.within.1 p.within.0)
 
       pub error_size : record { len = c + n; null = false } ≡ size_of (shortest Error f)
-      error_size = size_is _ _ _ (sym parts_length) (parts_some f from end count len) ∙ ap size_of parts_written
+      error_size = size_is _ _ _ (sym parts_length) (parts_some f r) ∙ ap size_of parts_written
 
       module _ (d : List ℕ) (at : ℕ) (room : Room d at (shortest Error f)) where
         bounds : (at + (c + n) ≤ length d) × (at + (c + n) < 2 ^ 32)
@@ -332,15 +323,15 @@ module _ (f : List ℕ) (r : ErrorParts) (p : PartsOf f r) where
         pub size_low : Fits w32 n
         size_low = omega (arith, bounds.1)
 
-        module _ (o₁ : List ℕ) (x : o₁ ≡ put d at (composite_header 29 (count + 1) n)) where
-          pub joined_room : Room o₁ (at + c) (parts_joined f from end len)
+        module _ (o₁ : List ℕ) (x : o₁ ≡ put d at (composite_header 29 (r.count + 1) n)) where
+          pub joined_room : Room o₁ (at + c) said
           joined_room =
-              let l : length o₁ ≡ length d = ap length x ∙ length_put d at (composite_header 29 (count + 1) n) in
+              let l : length o₁ ≡ length d = ap length x ∙ length_put d at (composite_header 29 (r.count + 1) n) in
               record { fits = omega (arith, bounds.0); low = omega (arith, bounds.1) }
 
-          pub error_laid : (o₂ : List ℕ) → o₂ ≡ put o₁ (at + c) (parts_joined f from end len) → o₂ ≡ put d at (shortest Error f)
+          pub error_laid : (o₂ : List ℕ) → o₂ ≡ put o₁ (at + c) said → o₂ ≡ put d at (shortest Error f)
           unfolding parts_say
           error_laid o₂ y =
               y
-              ∙ rw (x, ce) (put_put (composite_header 29 (count + 1) n) (parts_joined f from end len) d at (omega (arith, bounds.0))
+              ∙ rw (x, ce) (put_put (composite_header 29 (r.count + 1) n) said d at (omega (arith, bounds.0))
               ∙ ap (put d at) (rw ne parts_written))

@@ -3,7 +3,7 @@
 use mathlib.Core.Path.{◌≡◌, refl, sym, ap, ◌∙◌}
 use mathlib.Core.Bool.{Bool, true, false}
 use mathlib.Core.List.{List, [], ◌∷◌}
-use mathlib.Core.Option.{Option, none, some}
+use Rattle.std.specs.Prelude.{Option, None, Some}
 use Prim.Native.Nat.{ℕ, zero, suc, ◌-◌, ◌<◌, ◌≤◌}
 use native.Mathlib.Omega.{arith}
 use lib.ListN.{length, take, drop}
@@ -14,7 +14,7 @@ use Rattle.octets.specs.Verdict.{Verdict, refuse, accept, require, and_then}
 use Rattle.octets.specs.Octets.{starts_with}
 use Rattle.octets.proofs.Laws.{require_was, then_accept}
 use Rattle.values.specs.Value.{value_end, codes, kind_in, kind_of}
-use Rattle.values.specs.Null.{null, is_null}
+use Rattle.values.specs.Null.{null, is_null, or_null}
 use Rattle.values.proofs.Apart.{then_was}
 use Rattle.values.proofs.Laws.{value_within, value_some}
 use Rattle.serializer.specs.Written.{trimmed, composite, composite_of}
@@ -24,7 +24,7 @@ use Rattle.performatives.proofs.Bools.{and_first, and_second}
 use Rattle.performatives.proofs.Codes.{narrow, width_below, narrow_ends, uint_ends, ushort_ends}
 use Rattle.performatives.proofs.Table.{unknown}
 use Rattle.session_frame.specs.Session.{written_field, written_fields, performative_written}
-use Rattle.session_frame.specs.Parts.{or_null, first_len, first, fields_from, written_from, Sized, Checked}
+use Rattle.session_frame.specs.Parts.{first_len, first, fields_from, written_from, Sized, Checked}
 use Rattle.session_frame.proofs.Split.{split_was, split_none}
 
 -- ---- the first field
@@ -159,16 +159,16 @@ checked_from (r ∷ rows) (suc k) s fs e h =
 
 pub record Reads (body : List ℕ) (d : Described) (p : Performative) : Type 0 where
   pub rows : List Field
-  pub known : fields_of d.code ≡ some rows
+  pub known : fields_of d.code ≡ Some rows
   pub splits : split 16 d.count (items_of d body) ≡ accept p.fields
   pub fitting : fit rows p.fields ≡ true
   pub code : p.code ≡ d.code
   pub end : p.end ≡ d.end
 
-rows_was : (o : Option (List Field)) (rows : List Field) → rows_for o ≡ accept rows → o ≡ some rows
+rows_was : (o : Option (List Field)) (rows : List Field) → rows_for o ≡ accept rows → o ≡ Some rows
 unfolding rows_for
-rows_was none rows e = let z : ◌≡◌ {A = ℕ} 0 1 = cc in absurd (omega arith)
-rows_was (some r) rows e = cc
+rows_was None rows e = let z : ◌≡◌ {A = ℕ} 0 1 = cc in absurd (omega arith)
+rows_was (Some r) rows e = cc
 
 pub performative_was : (body : List ℕ) (d : Described) (p : Performative) → described body ≡ accept d → performative body ≡ accept p → Reads body d p
 unfolding performative performative_by fields_by
@@ -182,14 +182,14 @@ performative_was body d p q e =
     let z : record { code = d.code; fields = b.0; from = d.from; end = d.end } ≡ p = cc in
     rw (← z) (record { rows = a.0; known = rows_was (fields_of d.code) a.0 a.1; splits = c.1 ∙ ap accept y; fitting = rw y at g.0; code = refl; end = refl })
 
-pub code_low : (code : ℕ) (rows : List Field) → fields_of code ≡ some rows → code < 256
+pub code_low : (code : ℕ) (rows : List Field) → fields_of code ≡ Some rows → code < 256
 code_low code rows e = go (leb code 24) refl
   where
     go : (b : Bool) → leb code 24 ≡ b → code < 256
     go true q = omega (arith, leb-true code 24 q)
     go false q =
         let h : 24 < code = leb-false code 24 q in
-        let n : fields_of code ≡ none = unknown code (λ x y. omega arith) in
+        let n : fields_of code ≡ None = unknown code (λ x y. omega arith) in
         let z : ◌≡◌ {A = ℕ} 0 1 = cc in
         absurd (omega arith)
 

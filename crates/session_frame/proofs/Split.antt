@@ -13,19 +13,14 @@ use Rattle.octets.specs.Verdict.{Verdict, refuse, accept, and_then}
 use Rattle.octets.specs.Octets.{starts_with}
 use Rattle.octets.proofs.Laws.{then_accept, then_refuse}
 use Rattle.values.specs.Value.{value_end}
-use Rattle.values.specs.Null.{is_null}
-use Rattle.values.specs.Answers.{ended}
-use Rattle.values.specs.declared.Value.{Value}
-use Rattle.values.specs.declared.Value.TheVariants.{End, Malformed}
+use Rattle.values.specs.Null.{is_null, or_null}
 use Rattle.values.proofs.Laws.{value_within, value_some}
 use Rattle.values.proofs.Apart.{then_was}
 use Rattle.serializer.specs.Written.{joined, trimmed}
 use Rattle.performatives.specs.Performative.{split}
 use Rattle.session_frame.specs.declared.field.Size.{Size}
 use Rattle.session_frame.specs.declared.field.Kept.{Kept}
-use Rattle.session_frame.specs.declared.error.Others.{Others}
-use Rattle.session_frame.specs.declared.error.Others.TheVariants.{Fields, Malformed as NoFields}
-use Rattle.session_frame.specs.Parts.{or_null, size_of, kept_of, kept_before, others_says, others_of}
+use Rattle.session_frame.specs.Parts.{size_of, kept_of, kept_before, others_of}
 use Rattle.session_frame.proofs.Trim.{kept_before_lem, kept_none, trimmed_few, trimmed_short}
 use Rattle.session_frame.proofs.Steps.{rest, rest_is}
 
@@ -121,49 +116,48 @@ first_size [] n b h k e = absurd (omega arith)
 first_size (c ∷ s) zero b h k e = absurd (omega arith)
 first_size (c ∷ s) (suc n) b h k e = let l : length (take n s) ≡ n = length-take-le n s (omega arith) in rw (e, l)
 
-pub value_in : (d : ℕ) (s : List ℕ) (v : Value) (n : ℕ) → ended v ≡ value_end d s → v ≡ End n → n ≤ length s
-value_in d s v n e q = value_within d s n (sym e ∙ ap ended q)
+pub value_in : (d : ℕ) (s : List ℕ) (n : ℕ) → accept n ≡ value_end d s → n ≤ length s
+value_in d s n e = value_within d s n (sym e)
 
-module _ (count : ℕ) (s : List ℕ) (some_left : count ≡ 0 → ⊥) (v : Value) (e : ended v ≡ value_end 14 s) where
-  pub value_malformed : v ≡ Malformed → refuse 6 ≡ others_of count s
+module _ (count : ℕ) (s : List ℕ) (some_left : count ≡ 0 → ⊥) where
+  pub value_malformed : refuse 6 ≡ value_end 14 s → refuse 6 ≡ others_of count s
   unfolding others_of split and_then
-  value_malformed q = go count some_left
+  value_malformed e = go count some_left
     where
       go : (count : ℕ) → (count ≡ 0 → ⊥) → refuse 6 ≡ others_of count s
       go zero h = absurd (h refl)
-      go (suc k) h = rw (← e, q)
+      go (suc k) h = rw (← e)
 
-  module _ (n : ℕ) (q : v ≡ End n) where
+  module _ (n : ℕ) (e : accept n ≡ value_end 14 s) where
     value_ends : value_end 14 s ≡ accept n
-    value_ends = sym e ∙ ap ended q
+    value_ends = sym e
 
-    module _ (w : Others) (o : others_says w ≡ others_of (count - 1) (rest s n)) where
-      pub others_malformed : w ≡ NoFields → refuse 6 ≡ others_of count s
-      others_malformed p = go count some_left (sym (ap others_says (sym p) ∙ o))
+    pub others_malformed : refuse 6 ≡ others_of (count - 1) (rest s n) → refuse 6 ≡ others_of count s
+    others_malformed o = go count some_left (sym o)
+      where
+        go : (count : ℕ) → (count ≡ 0 → ⊥) → others_of (count - 1) (rest s n) ≡ refuse 6 → refuse 6 ≡ others_of count s
+        go zero h x = absurd (h refl)
+        go (suc k) h x = let m : suc k - 1 ≡ k = omega arith in sym (others_refused k n s value_ends 6 (rw (m, rest_is s n) at x))
+
+    module _ (r : Kept) (o : accept r ≡ others_of (count - 1) (rest s n)) where
+      others_are : others_of (count - 1) (rest s n) ≡ accept r
+      others_are = sym o
+
+      others_in : (r.count ≤ count - 1) × (r.len ≤ length s - n)
+      others_in =
+          let b = others_bound (count - 1) (rest s n) r others_are in
+          let l : length (rest s n) ≡ length s - n = ap length (rest_is s n) ∙ length-drop n s in
+          (b.0, omega (arith, b.1))
+
+      pub count_fits : Fits w32 count → r.count + 1 < 2 ^ 64
+      count_fits f = let b = others_in in omega (arith, b.0)
+
+      pub len_fits : length s < 2 ^ 64 → r.len + n < 2 ^ 64
+      len_fits l = let b = others_in in omega (arith, b.1, value_in 14 s n e)
+
+      pub values_kept : (b : Bool) (t : Kept) → b ≡ is_null (or_null s) → t ≡ kept_before (record { len = n; null = b }) r → accept t ≡ others_of count s
+      values_kept b t x y = go count some_left others_are
         where
-          go : (count : ℕ) → (count ≡ 0 → ⊥) → others_of (count - 1) (rest s n) ≡ refuse 6 → refuse 6 ≡ others_of count s
-          go zero h x = absurd (h refl)
-          go (suc k) h x = let m : suc k - 1 ≡ k = omega arith in sym (others_refused k n s value_ends 6 (rw (m, rest_is s n) at x))
-
-      module _ (r : Kept) (p : w ≡ Fields r) where
-        others_are : others_of (count - 1) (rest s n) ≡ accept r
-        others_are = sym o ∙ ap others_says p
-
-        others_in : (r.count ≤ count - 1) × (r.len ≤ length s - n)
-        others_in =
-            let b = others_bound (count - 1) (rest s n) r others_are in
-            let l : length (rest s n) ≡ length s - n = ap length (rest_is s n) ∙ length-drop n s in
-            (b.0, omega (arith, b.1))
-
-        pub count_fits : Fits w32 count → r.count + 1 < 2 ^ 64
-        count_fits f = let b = others_in in omega (arith, b.0)
-
-        pub len_fits : length s < 2 ^ 64 → r.len + n < 2 ^ 64
-        len_fits l = let b = others_in in omega (arith, b.1, value_in 14 s v n e q)
-
-        pub values_kept : (b : Bool) (t : Kept) → b ≡ is_null (or_null s) → t ≡ kept_before (record { len = n; null = b }) r → accept t ≡ others_of count s
-        values_kept b t x y = go count some_left others_are
-          where
-            go : (count : ℕ) → (count ≡ 0 → ⊥) → others_of (count - 1) (rest s n) ≡ accept r → accept t ≡ others_of count s
-            go zero h z = absurd (h refl)
-            go (suc k) h z = let m : suc k - 1 ≡ k = omega arith in sym (others_accepted k n s value_ends r (rw (m, rest_is s n) at z) ∙ ap accept (ap (λ (f : Size). kept_before f r) (sym (first_size s n b (value_some 14 s n value_ends) (value_in 14 s v n e q) x)) ∙ sym y))
+          go : (count : ℕ) → (count ≡ 0 → ⊥) → others_of (count - 1) (rest s n) ≡ accept r → accept t ≡ others_of count s
+          go zero h z = absurd (h refl)
+          go (suc k) h z = let m : suc k - 1 ≡ k = omega arith in sym (others_accepted k n s value_ends r (rw (m, rest_is s n) at z) ∙ ap accept (ap (λ (f : Size). kept_before f r) (sym (first_size s n b (value_some 14 s n value_ends) (value_in 14 s n e) x)) ∙ sym y))

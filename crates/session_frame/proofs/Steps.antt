@@ -3,7 +3,7 @@
 use mathlib.Core.Path.{◌≡◌, refl, sym, ap, ◌∙◌}
 use mathlib.Core.Bool.{Bool, true, false, cond, ◌&&◌, ◌||◌}
 use mathlib.Core.List.{List, [], ◌∷◌, ◌++◌}
-use mathlib.Core.Option.{none}
+use Rattle.std.specs.Prelude.{Option, None, Some, unwrap_or}
 use Prim.Native.Nat.{ℕ, zero, suc, ◌+◌, ◌*◌, ◌-◌, ◌/◌, ◌%◌, ◌^◌, ◌<◌, ◌≤◌}
 use native.Mathlib.Omega.{arith}
 use lib.ListN.{length, take, drop, get_or, length-drop, drop_of_length-le}
@@ -13,19 +13,15 @@ use borrow.Author.Tests.{eq-eqb, ne_eqb}
 use Rattle.octets.specs.Octets.{big_endian, big_endian_from, bytes_of, put, starts_with}
 use Rattle.values.specs.Value.{value_end}
 use Rattle.values.specs.Null.{null, is_null}
-use Rattle.values.specs.Answers.{ended}
-use Rattle.values.specs.declared.Value.{Value}
-use Rattle.values.specs.declared.Value.TheVariants.{End, Malformed}
+use Rattle.values.specs.Answers.{well_formed}
 use Rattle.serializer.specs.Written.{uint, ushort, text_header, text}
 use Rattle.performatives.specs.declared.FieldType as C
 use Rattle.performatives.specs.declared.FieldType.TheVariants.{Any, UShort, UInt, String, Error}
-use Rattle.performatives.specs.declared.Default.{Default}
-use Rattle.performatives.specs.declared.Default.TheVariants.{Null, Number}
-use Rattle.performatives.specs.Answers.{type_says, default_says}
+use Rattle.performatives.specs.Answers.{type_says}
 use Rattle.session_frame.specs.declared.field.Size.{Size}
 use Rattle.session_frame.specs.declared.field.Kept.{Kept}
 use Rattle.session_frame.specs.Session.{text_of, default_of}
-use Rattle.session_frame.specs.Parts.{or_null, first_len, number_bytes, text_start, size_of, kept_before}
+use Rattle.session_frame.specs.Parts.{end_or, first_len, number_bytes, text_start, size_of, kept_before}
 
 -- the rest of s from a on, as the code hands it down
 abbrev pub rest : List ℕ → ℕ → List ℕ
@@ -33,22 +29,6 @@ rest s a = take (length s - a) (drop a s)
 
 pub rest_is : (s : List ℕ) (a : ℕ) → rest s a ≡ drop a s
 rest_is s a = take_all (length s - a) (drop a s) (omega (arith, length-drop a s))
-
-pub or_false : (b : Bool) → (b || false) ≡ b
-or_false true = refl
-or_false false = refl
-
--- ---- is_null
-
-pub null_missing : (s : List ℕ) → length s ≡ 0 → true ≡ is_null (or_null s)
-unfolding starts_with
-null_missing [] h = refl
-null_missing (b ∷ s) h = absurd (omega arith)
-
-pub null_first : (s : List ℕ) → (length s ≡ 0 → ⊥) → eqb (get_or s 0 0) 0x40 ≡ is_null (or_null s)
-unfolding starts_with
-null_first [] h = absurd (h refl)
-null_first (b ∷ s) h = sym (or_false (eqb b 0x40))
 
 -- ---- before
 
@@ -82,30 +62,6 @@ unfolding number_bytes
 number_some f x e h = (rw (rest_is f 1) at e, rw (rest_is f 1) at h)
 
 -- ---- text_start, text_of
-
-pub text_none : (s : List ℕ) → length s ≡ 0 → 5 ≡ text_start s
-unfolding starts_with text_start
-text_none [] h = refl
-text_none (b ∷ s) h = absurd (omega arith)
-
-starts : (s : List ℕ) → (length s ≡ 0 → ⊥) → starts_with (0xa1 ∷ 0xa3 ∷ []) s ≡ (eqb (get_or s 0 0) 0xa1 || (eqb (get_or s 0 0) 0xa3 || false))
-unfolding starts_with
-starts [] h = absurd (h refl)
-starts (b ∷ s) h = refl
-
-module _ (s : List ℕ) (some_byte : length s ≡ 0 → ⊥) where
-  pub text_string : get_or s 0 0 ≡ 0xa1 → 2 ≡ text_start s
-  unfolding text_start
-  text_string e = rw (starts s some_byte, eq-eqb _ _ e)
-
-  module _ (no-string : get_or s 0 0 ≡ 0xa1 → ⊥) where
-    pub text_symbol : get_or s 0 0 ≡ 0xa3 → 2 ≡ text_start s
-    unfolding text_start
-    text_symbol e = rw (starts s some_byte, ne_eqb _ _ no-string, eq-eqb _ _ e)
-
-    pub text_long : (get_or s 0 0 ≡ 0xa3 → ⊥) → 5 ≡ text_start s
-    unfolding text_start
-    text_long h = rw (starts s some_byte, ne_eqb _ _ no-string, ne_eqb _ _ h)
 
 text_drop : (f : List ℕ) (b : Bool) → starts_with (0xa1 ∷ 0xa3 ∷ []) f ≡ b → drop (text_start f) f ≡ text_of f
 unfolding text_of text_start
@@ -160,72 +116,72 @@ pub null_laid : (o d : List ℕ) (at : ℕ) → o ≡ put d at (bytes_of 1 64) �
 unfolding bytes_of
 null_laid o d at e = e
 
-module _ (kind : C.FieldType) (default : Default) where
-  null_default : default ≡ Null → null ≡ default_of (type_says kind) (default_says default)
+module _ (kind : C.FieldType) (default : Option ℕ) where
+  null_default : default ≡ None → null ≡ default_of (type_says kind) default
   null_default e = rw e (go kind)
     where
-      go : (kind : C.FieldType) → null ≡ default_of (type_says kind) none
+      go : (kind : C.FieldType) → null ≡ default_of (type_says kind) None
       go Any = refl
       go UShort = refl
       go UInt = refl
       go String = refl
       go Error = refl
 
-  module _ (n : ℕ) (e : default ≡ Number n) where
-    any_default : kind ≡ Any → null ≡ default_of (type_says kind) (default_says default)
+  module _ (n : ℕ) (e : default ≡ Some n) where
+    any_default : kind ≡ Any → null ≡ default_of (type_says kind) default
     any_default q = rw (e, q)
 
-    string_default : kind ≡ String → null ≡ default_of (type_says kind) (default_says default)
+    string_default : kind ≡ String → null ≡ default_of (type_says kind) default
     string_default q = rw (e, q)
 
-    error_default : kind ≡ Error → null ≡ default_of (type_says kind) (default_says default)
+    error_default : kind ≡ Error → null ≡ default_of (type_says kind) default
     error_default q = rw (e, q)
 
-    ushort_default : kind ≡ UShort → ushort n ≡ default_of (type_says kind) (default_says default)
+    ushort_default : kind ≡ UShort → ushort n ≡ default_of (type_says kind) default
     ushort_default q = rw (e, q)
 
-    uint_default : kind ≡ UInt → uint n ≡ default_of (type_says kind) (default_says default)
+    uint_default : kind ≡ UInt → uint n ≡ default_of (type_says kind) default
     uint_default q = rw (e, q)
 
-    pub default_size_any : kind ≡ Any → ◌≡◌ {A = Size} (record { len = 1; null = true }) (size_of (default_of (type_says kind) (default_says default)))
+    pub default_size_any : kind ≡ Any → ◌≡◌ {A = Size} (record { len = 1; null = true }) (size_of (default_of (type_says kind) default))
     default_size_any q = size_null ∙ ap size_of (any_default q)
 
-    pub default_size_string : kind ≡ String → ◌≡◌ {A = Size} (record { len = 1; null = true }) (size_of (default_of (type_says kind) (default_says default)))
+    pub default_size_string : kind ≡ String → ◌≡◌ {A = Size} (record { len = 1; null = true }) (size_of (default_of (type_says kind) default))
     default_size_string q = size_null ∙ ap size_of (string_default q)
 
-    pub default_size_error : kind ≡ Error → ◌≡◌ {A = Size} (record { len = 1; null = true }) (size_of (default_of (type_says kind) (default_says default)))
+    pub default_size_error : kind ≡ Error → ◌≡◌ {A = Size} (record { len = 1; null = true }) (size_of (default_of (type_says kind) default))
     default_size_error q = size_null ∙ ap size_of (error_default q)
 
-    pub default_size_ushort : kind ≡ UShort → ◌≡◌ {A = Size} (record { len = 3; null = false }) (size_of (default_of (type_says kind) (default_says default)))
+    pub default_size_ushort : kind ≡ UShort → ◌≡◌ {A = Size} (record { len = 3; null = false }) (size_of (default_of (type_says kind) default))
     default_size_ushort q = size_ushort n ∙ ap size_of (ushort_default q)
 
-    pub default_size_uint : kind ≡ UInt → (l : ℕ) → l ≡ length (uint n) → ◌≡◌ {A = Size} (record { len = l; null = false }) (size_of (default_of (type_says kind) (default_says default)))
+    pub default_size_uint : kind ≡ UInt → (l : ℕ) → l ≡ length (uint n) → ◌≡◌ {A = Size} (record { len = l; null = false }) (size_of (default_of (type_says kind) default))
     default_size_uint q l h = size_uint n l h ∙ ap size_of (uint_default q)
 
     module _ (o d : List ℕ) (at : ℕ) where
-      pub put_default_any : kind ≡ Any → o ≡ put d at null → o ≡ put d at (default_of (type_says kind) (default_says default))
+      pub put_default_any : kind ≡ Any → o ≡ put d at null → o ≡ put d at (default_of (type_says kind) default)
       put_default_any q h = h ∙ ap (put d at) (any_default q)
 
-      pub put_default_string : kind ≡ String → o ≡ put d at null → o ≡ put d at (default_of (type_says kind) (default_says default))
+      pub put_default_string : kind ≡ String → o ≡ put d at null → o ≡ put d at (default_of (type_says kind) default)
       put_default_string q h = h ∙ ap (put d at) (string_default q)
 
-      pub put_default_error : kind ≡ Error → o ≡ put d at null → o ≡ put d at (default_of (type_says kind) (default_says default))
+      pub put_default_error : kind ≡ Error → o ≡ put d at null → o ≡ put d at (default_of (type_says kind) default)
       put_default_error q h = h ∙ ap (put d at) (error_default q)
 
-      pub put_default_ushort : kind ≡ UShort → o ≡ put d at (ushort (n % 65536)) → o ≡ put d at (default_of (type_says kind) (default_says default))
+      pub put_default_ushort : kind ≡ UShort → o ≡ put d at (ushort (n % 65536)) → o ≡ put d at (default_of (type_says kind) default)
       unfolding ushort bytes_of
       put_default_ushort q h =
           let a : n % 65536 / 256 % 256 ≡ n / 256 % 256 = omega arith in
           let b : n % 65536 / 1 % 256 ≡ n / 1 % 256 = omega arith in
           (rw (a, b) at h) ∙ ap (put d at) (ushort_default q)
 
-      pub put_default_uint : kind ≡ UInt → o ≡ put d at (uint n) → o ≡ put d at (default_of (type_says kind) (default_says default))
+      pub put_default_uint : kind ≡ UInt → o ≡ put d at (uint n) → o ≡ put d at (default_of (type_says kind) default)
       put_default_uint q h = h ∙ ap (put d at) (uint_default q)
 
-  pub default_size_null : default ≡ Null → ◌≡◌ {A = Size} (record { len = 1; null = true }) (size_of (default_of (type_says kind) (default_says default)))
+  pub default_size_null : default ≡ None → ◌≡◌ {A = Size} (record { len = 1; null = true }) (size_of (default_of (type_says kind) default))
   default_size_null e = size_null ∙ ap size_of (null_default e)
 
-  pub put_default_null : (o d : List ℕ) (at : ℕ) → default ≡ Null → o ≡ put d at null → o ≡ put d at (default_of (type_says kind) (default_says default))
+  pub put_default_null : (o d : List ℕ) (at : ℕ) → default ≡ None → o ≡ put d at null → o ≡ put d at (default_of (type_says kind) default)
   put_default_null o d at e h = h ∙ ap (put d at) (null_default e)
 
 -- ---- first_len
@@ -235,19 +191,14 @@ module _ (count : ℕ) (s : List ℕ) where
   unfolding first_len
   first_missing e = rw e
 
-  module _ (some_left : count ≡ 0 → ⊥) (v : Value) (e : ended v ≡ value_end 16 s) where
-    pub first_malformed : v ≡ Malformed → 0 ≡ first_len count s
-    unfolding first_len
-    first_malformed q = go count some_left
-      where
-        go : (count : ℕ) → (count ≡ 0 → ⊥) → 0 ≡ first_len count s
-        go zero h = absurd (h refl)
-        go (suc k) h = rw (← e, q)
+  unwrapped : (v : Option ℕ) → unwrap_or v 0 ≡ end_or 0 (well_formed v)
+  unwrapped None = refl
+  unwrapped (Some n) = refl
 
-    pub first_ends : (n : ℕ) → v ≡ End n → n ≡ first_len count s
-    unfolding first_len
-    first_ends n q = go count some_left
-      where
-        go : (count : ℕ) → (count ≡ 0 → ⊥) → n ≡ first_len count s
-        go zero h = absurd (h refl)
-        go (suc k) h = rw (← e, q)
+  pub first_ends : (v : Option ℕ) (n : ℕ) → (count ≡ 0 → ⊥) → well_formed v ≡ value_end 16 s → n ≡ unwrap_or v 0 → n ≡ first_len count s
+  unfolding first_len
+  first_ends v n some_left e q = go count some_left
+    where
+      go : (count : ℕ) → (count ≡ 0 → ⊥) → n ≡ first_len count s
+      go zero h = absurd (h refl)
+      go (suc k) h = q ∙ unwrapped v ∙ ap (end_or 0) e

@@ -3,7 +3,7 @@
 use mathlib.Core.Path.{◌≡◌, refl, sym, ap, ◌∙◌, subst}
 use mathlib.Core.Bool.{Bool, true, false}
 use mathlib.Core.List.{List, [], ◌∷◌}
-use mathlib.Core.Option.{Option}
+use Rattle.std.specs.Prelude.{Option}
 use Prim.Native.Nat.{ℕ, ◌+◌, ◌*◌, ◌-◌, ◌^◌, ◌<◌, ◌≤◌}
 use native.Mathlib.Omega.{arith}
 use mir.Syntax.{w16, w32, w64}
@@ -12,7 +12,7 @@ use lib.ListN.{length, drop, length-drop}
 use lib.Seq.{take_all}
 use lib.Pow.{pow_mono}
 use Rattle.octets.specs.Octets.{big_endian, put, starts_with}
-use Rattle.values.specs.Null.{is_null}
+use Rattle.values.specs.Null.{is_null, or_null}
 use Rattle.serializer.specs.Written.{uint, ushort, text}
 use Rattle.performatives.specs.Fields as D
 use Rattle.performatives.specs.Performative.{number_of}
@@ -21,7 +21,7 @@ use Rattle.performatives.specs.declared.FieldType.TheVariants.{Any, UShort, UInt
 use Rattle.performatives.specs.Answers.{type_says}
 use Rattle.session_frame.specs.declared.field.Size.{Size}
 use Rattle.session_frame.specs.Session.{text_of, default_of, shortest, written_as}
-use Rattle.session_frame.specs.Parts.{or_null, Sized, number_bytes, size_of, Room}
+use Rattle.session_frame.specs.Parts.{Sized, number_bytes, size_of, Room}
 use Rattle.session_frame.proofs.Steps.{size_is, size_uint, size_ushort, text_some}
 
 -- ---- numbers

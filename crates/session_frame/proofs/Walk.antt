@@ -3,7 +3,7 @@
 use mathlib.Core.Path.{◌≡◌, refl, sym, ap, ◌∙◌}
 use mathlib.Core.Bool.{Bool, true, false, cond}
 use mathlib.Core.List.{List, [], ◌∷◌, ◌++◌}
-use mathlib.Core.Option.{Option, none, some}
+use Rattle.std.specs.Prelude.{Option, None, Some}
 use Prim.Native.Nat.{ℕ, zero, suc, ◌+◌, ◌*◌, ◌-◌, ◌^◌, ◌<◌, ◌≤◌}
 use native.Mathlib.Omega.{arith}
 use mir.Syntax.{w64}
@@ -16,7 +16,7 @@ use Rattle.octets.specs.Verdict.{Verdict, refuse, accept, and_then}
 use Rattle.octets.specs.Octets.{bytes_of, put}
 use Rattle.octets.proofs.Laws.{put_put, put_nothing, length_put}
 use Rattle.values.specs.Value.{value_end}
-use Rattle.values.specs.Null.{is_null}
+use Rattle.values.specs.Null.{is_null, or_null}
 use Rattle.values.proofs.Laws.{value_within}
 use Rattle.serializer.specs.Written.{uint, ushort, text, joined, trimmed, composite_header, composite}
 use Rattle.serializer.proofs.Laws.{uint_len_none, uint_len_small, uint_len_large}
@@ -24,14 +24,11 @@ use Rattle.performatives.specs.Fields as D
 use Rattle.performatives.specs.Fields.{Field, field_at}
 use Rattle.performatives.specs.Performative.{number_of, Described, described, split, items_of}
 use Rattle.performatives.specs.declared.FieldType as C
-use Rattle.performatives.specs.declared.Default.{Default}
-use Rattle.performatives.specs.declared.Row.{Row}
-use Rattle.performatives.specs.declared.Row.TheVariants.{Field as Is, Past}
-use Rattle.performatives.specs.Answers.{type_says, default_says, row_says}
+use Rattle.performatives.specs.Answers.{type_says}
 use Rattle.session_frame.specs.declared.field.Size.{Size}
 use Rattle.session_frame.specs.declared.field.Kept.{Kept}
 use Rattle.session_frame.specs.Session.{text_of, error_fields, with_condition, error_of, shortest, default_of, written_as, written_field}
-use Rattle.session_frame.specs.Parts.{or_null, end_or, first_len, first, fields_from, written_from, Sized, Checked, size_of, kept_of, kept_before, Room}
+use Rattle.session_frame.specs.Parts.{end_or, first_len, first, fields_from, written_from, Sized, Checked, size_of, kept_of, kept_before, Room}
 use Rattle.session_frame.proofs.Trim.{kept_before_lem, kept_none, trimmed_few, trimmed_short}
 use Rattle.session_frame.proofs.Steps.{rest, rest_is}
 use Rattle.session_frame.proofs.Split.{split_joined}
@@ -84,16 +81,16 @@ shortest_length D.String f = omega (arith, text_length 161 (text_of f), text_sho
 shortest_length D.Error f = error_short f (described f) refl
 
 default_length : (t : D.FieldType) (default : Option ℕ) → length (default_of t default) ≤ 5
-default_length D.Any none = omega arith
-default_length D.UShort none = omega arith
-default_length D.UInt none = omega arith
-default_length D.String none = omega arith
-default_length D.Error none = omega arith
-default_length D.Any (some n) = omega arith
-default_length D.UShort (some n) = ushort_length n
-default_length D.UInt (some n) = uint_length n
-default_length D.String (some n) = omega arith
-default_length D.Error (some n) = omega arith
+default_length D.Any None = omega arith
+default_length D.UShort None = omega arith
+default_length D.UInt None = omega arith
+default_length D.String None = omega arith
+default_length D.Error None = omega arith
+default_length D.Any (Some n) = omega arith
+default_length D.UShort (Some n) = ushort_length n
+default_length D.UInt (Some n) = uint_length n
+default_length D.String (Some n) = omega arith
+default_length D.Error (Some n) = omega arith
 
 pub written_length : (t : D.FieldType) (default : Option ℕ) (f : List ℕ) → length (written_as t default f) ≤ length f + 17
 unfolding written_as
@@ -142,20 +139,20 @@ from_count (r ∷ rows) count s = ap suc (from_count rows (count - 1) (drop (fir
 
 -- ---- a row, its field, and the fields after it
 
-module _ (code i : ℕ) (row : Row) (e : row_says row ≡ field_at code i) where
-  past : row ≡ Past → fields_from code i ≡ []
-  past q = from_none code i (sym e ∙ ap row_says q)
+module _ (code i : ℕ) where
+  past : None ≡ field_at code i → fields_from code i ≡ []
+  past e = from_none code i (sym e)
 
-  pub trim_none : (count : ℕ) (s : List ℕ) → row ≡ Past → record { count = 0; len = 0 } ≡ kept_of (trimmed (written_from (fields_from code i) count s))
+  pub trim_none : (count : ℕ) (s : List ℕ) → None ≡ field_at code i → record { count = 0; len = 0 } ≡ kept_of (trimmed (written_from (fields_from code i) count s))
   unfolding written_from
   trim_none count s q = rw (past q) kept_none
 
-  module _ (kind : C.FieldType) (m : Bool) (default : Default) (q : row ≡ Is kind m default) where
+  module _ (kind : C.FieldType) (m : Bool) (default : Option ℕ) (e : Some (record { type = type_says kind; mandatory = m; default = default }) ≡ field_at code i) where
     abbrev this : Field
-    this = record { type = type_says kind; mandatory = m; default = default_says default }
+    this = record { type = type_says kind; mandatory = m; default = default }
 
-    is_this : field_at code i ≡ some this
-    is_this = sym e ∙ ap row_says q
+    is_this : field_at code i ≡ Some this
+    is_this = sym e
 
     rows_are : fields_from code i ≡ this ∷ fields_from code (i + 1)
     rows_are = from_some code i this is_this
@@ -185,11 +182,11 @@ module _ (code i : ℕ) (row : Row) (e : row_says row ≡ field_at code i) where
           tail_checked k g = rw (rest_is s n, h, g) checked.1
 
       module _ (n : ℕ) (h : n ≡ first_len count s) (k : ℕ) (g : k ≡ count - 1) where
-        steps_are : written_from (fields_from code i) count s ≡ written_as (type_says kind) (default_says default) (or_null (take n s)) ∷ written_from (fields_from code (i + 1)) k (rest s n)
+        steps_are : written_from (fields_from code i) count s ≡ written_as (type_says kind) default (or_null (take n s)) ∷ written_from (fields_from code (i + 1)) k (rest s n)
         unfolding first
         steps_are = from_is ∙ rw (rest_is s n, h, g)
 
-        module _ (f : Size) (fe : f ≡ size_of (written_as (type_says kind) (default_says default) (or_null (take n s)))) (r : Kept) (re : r ≡ kept_of (trimmed (written_from (fields_from code (i + 1)) k (rest s n)))) where
+        module _ (f : Size) (fe : f ≡ size_of (written_as (type_says kind) default (or_null (take n s)))) (r : Kept) (re : r ≡ kept_of (trimmed (written_from (fields_from code (i + 1)) k (rest s n)))) where
           pub kept_count : r.count + 1 < 2 ^ 64
           unfolding kept_of
           kept_count =
@@ -201,7 +198,7 @@ module _ (code i : ℕ) (row : Row) (e : row_says row ≡ field_at code i) where
           kept_len l =
               let a : length (or_null (take n s)) ≤ n + 1 = omega (arith, or_length (take n s), length-take n s) in
               let b : length (rest s n) ≡ length s - n = ap length (rest_is s n) ∙ length-drop n s in
-              rw (re, fe) (omega (arith, trimmed_short (written_from (fields_from code (i + 1)) k (rest s n)), from_length (fields_from code (i + 1)) k (rest s n), rows_left code (i + 1), written_length (type_says kind) (default_says default) (or_null (take n s)), first_in count s n h))
+              rw (re, fe) (omega (arith, trimmed_short (written_from (fields_from code (i + 1)) k (rest s n)), from_length (fields_from code (i + 1)) k (rest s n), rows_left code (i + 1), written_length (type_says kind) default (or_null (take n s)), first_in count s n h))
 
           pub trim_step : (t : Kept) → t ≡ kept_before f r → t ≡ kept_of (trimmed (written_from (fields_from code i) count s))
           trim_step t x = x ∙ rw (fe, re) (kept_before_lem _ _) ∙ ap (λ (l : List (List ℕ)). kept_of (trimmed l)) (sym steps_are)
@@ -210,7 +207,7 @@ module _ (code i : ℕ) (row : Row) (e : row_says row ≡ field_at code i) where
 
       module _ (n : ℕ) (h : n ≡ first_len count s) (left : ℕ) (more : left ≡ 0 → ⊥) where
         abbrev written : List ℕ
-        written = written_as (type_says kind) (default_says default) (or_null (take n s))
+        written = written_as (type_says kind) default (or_null (take n s))
 
         module _ (k : ℕ) (g : k ≡ count - 1) where
           abbrev others : List (List ℕ)
@@ -248,6 +245,6 @@ pub fields_none : (d : List ℕ) (at left : ℕ) (ws : List (List ℕ)) → left
 unfolding joined
 fields_none d at left ws e = rw e (sym (put_nothing d at))
 
-pub fields_past : (code i : ℕ) (row : Row) → row_says row ≡ field_at code i → (d : List ℕ) (at left count : ℕ) (s : List ℕ) → row ≡ Past → d ≡ put d at (joined (take left (written_from (fields_from code i) count s)))
+pub fields_past : (code i : ℕ) → None ≡ field_at code i → (d : List ℕ) (at left count : ℕ) (s : List ℕ) → d ≡ put d at (joined (take left (written_from (fields_from code i) count s)))
 unfolding joined written_from
-fields_past code i row e d at left count s q = rw (past code i row e q, take-nil left) (sym (put_nothing d at))
+fields_past code i e d at left count s = rw (past code i e, take-nil left) (sym (put_nothing d at))

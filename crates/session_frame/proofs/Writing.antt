@@ -3,7 +3,7 @@
 use mathlib.Core.Path.{◌≡◌, refl, sym, ap, ◌∙◌, subst}
 use mathlib.Core.Bool.{true}
 use mathlib.Core.List.{List, ◌++◌}
-use mathlib.Core.Option.{none, some}
+use Rattle.std.specs.Prelude.{None, Some, Result, Ok, Err}
 use Prim.Native.Nat.{ℕ, ◌+◌, ◌*◌, ◌-◌, ◌^◌, ◌<◌, ◌≤◌}
 use native.Mathlib.Omega.{arith}
 use mir.Syntax.{w8, w64}
@@ -13,18 +13,16 @@ use borrow.Author.Tests.{le-leb, lt-leb}
 use Rattle.octets.specs.Verdict.{Verdict, refuse, accept, require, and_then, accepts}
 use Rattle.octets.specs.Octets.{put}
 use Rattle.octets.specs.Output.{room_for, Wrote}
-use Rattle.octets.specs.declared.Written.{Written}
-use Rattle.octets.specs.declared.Written.TheVariants.{Bytes, Refused}
+use Rattle.octets.specs.Refusal.{number_of}
+use Rattle.octets.specs.declared.Refusal.{Refusal}
+use Rattle.octets.specs.declared.Refusal.TheVariants.{BodyMalformed, NoRoom, OverWritingLimit}
 use Rattle.octets.proofs.Laws.{require_on, require_off, then_accept, then_refuse, room_yes, room_no, wrote_no, wrote_yes}
 use Rattle.serializer.specs.Written.{trimmed, composite_header}
 use Rattle.performatives.specs.Performative.{Described, described, Performative, performative, said}
-use Rattle.performatives.specs.declared.Described as C
-use Rattle.performatives.specs.declared.Described.TheVariants.{List as Lists, Malformed as NoList}
-use Rattle.performatives.specs.Answers.{described_says}
 use Rattle.frame_encoder.specs.Frames.{frame_bytes, limited}
 use Rattle.performatives.specs.declared.Performative as P
 use Rattle.frame_decoder.specs.declared.Frame as F
-use Rattle.frame_decoder.specs.declared.Frame.TheVariants.{Refused as NoFrame, Empty, Body}
+use Rattle.frame_decoder.specs.declared.Frame.TheVariants.{Empty, Body}
 use Rattle.frame_decoder.specs.Frame.{Frame, FrameSaid, body_in, body_of, any_size, any_channel, session_frame, session_said}
 use Rattle.frame_decoder.specs.Answers.{frame_says, session_answer}
 use Rattle.frame_decoder.proofs.Laws.{session_was, sendable_was, body_is as frame_body}
@@ -58,14 +56,14 @@ unfolding accepts
 accepts_was (refuse k) e = let z : ◌≡◌ {A = ℕ} 0 1 = cc in absurd (omega arith)
 accepts_was (accept a) e = (a, refl)
 
-module _ (body : List ℕ) (r : C.Described) (e : described_says r ≡ described body) where
-  pub body_none : (channel limit : ℕ) (d : List ℕ) → r ≡ NoList → Wrote (write_body channel body limit) (Refused 6) d d
+module _ (body : List ℕ) where
+  pub body_none : (channel limit : ℕ) (d : List ℕ) → refuse 6 ≡ described body → Wrote (write_body channel body limit) (Err BodyMalformed) d d
   unfolding write_body performative
-  body_none channel limit d q =
-      let x : performative body ≡ refuse 6 = then_refuse (described body) _ 6 (sym e ∙ ap described_says q) in
-      wrote_no (write_body channel body limit) 6 d (then_refuse (performative body) _ 6 x)
+  body_none channel limit d e =
+      let x : performative body ≡ refuse 6 = then_refuse (described body) _ 6 (sym e) in
+      wrote_no (write_body channel body limit) BodyMalformed d (then_refuse (performative body) _ 6 x)
 
-  module _ (code count from end : ℕ) (q : r ≡ Lists code count from end) (a : accepts (performative body) ≡ true) where
+  module _ (code count from end : ℕ) (e : accept (record { code = code; count = count; from = from; end = end }) ≡ described body) (a : accepts (performative body) ≡ true) where
     abbrev listed : Described
     listed = record { code = code; count = count; from = from; end = end }
 
@@ -80,7 +78,7 @@ module _ (body : List ℕ) (r : C.Described) (e : described_says r ≡ described
     accepted = (accepts_was (performative body) a).1
 
     reads : Reads body listed the_performative
-    reads = performative_was body listed the_performative (sym e ∙ ap described_says q) accepted
+    reads = performative_was body listed the_performative (sym e) accepted
 
     pub body_checked : Checked (fields_from code 0) count (take (end - from) (drop from body))
     body_checked = fields_checked body listed the_performative reads
@@ -96,8 +94,8 @@ module _ (body : List ℕ) (r : C.Described) (e : described_says r ≡ described
       unfolding kept_of
       is_planned = record {
         code = code_low code reads.rows reads.known;
-        from = items_from_lem body r e code count from end q;
-        end = items_end body r e code count from end q;
+        from = items_from_lem body code count from end e;
+        end = items_end body code count from end e;
         checked = body_checked;
         kept = ap (λ (x : Kept). x.count) ke;
         len = ap (λ (x : Kept). x.len) ke;
@@ -114,7 +112,7 @@ module _ (body : List ℕ) (r : C.Described) (e : described_says r ≡ described
         low = omega (arith, header_length code k.count k.len)
 
         order : (from ≤ end) × (end ≤ length body)
-        order = (items_from_lem body r e code count from end q, items_end body r e code count from end q)
+        order = (items_from_lem body code count from end e, items_end body code count from end e)
 
         pub head_fits : Fits w64 (8 + h)
         head_fits = omega (arith, low)
@@ -135,18 +133,18 @@ module _ (body : List ℕ) (r : C.Described) (e : described_says r ≡ described
             ∙ rw (performative_is body listed the_performative reads, reads.end)
 
         module _ (channel limit : ℕ) (d : List ℕ) where
-          pub body_over : limit < ((8 + h) + k.len) + (length body - end) → Wrote (write_body channel body limit) (Refused 27) d d
+          pub body_over : limit < ((8 + h) + k.len) + (length body - end) → Wrote (write_body channel body limit) (Err OverWritingLimit) d d
           body_over l =
-              wrote_no (write_body channel body limit) 27 d
+              wrote_no (write_body channel body limit) OverWritingLimit d
               (body_is channel limit ∙ limited_over limit (plan_bytes channel plan body) (omega (arith, size_is channel)))
 
           module _ (low-enough : ((8 + h) + k.len) + (length body - end) ≤ limit) where
-            pub body_most : 16384 < ((8 + h) + k.len) + (length body - end) → Wrote (write_body channel body limit) (Refused 27) d d
+            pub body_most : 16384 < ((8 + h) + k.len) + (length body - end) → Wrote (write_body channel body limit) (Err OverWritingLimit) d d
             body_most l =
-                wrote_no (write_body channel body limit) 27 d
+                wrote_no (write_body channel body limit) OverWritingLimit d
                 (body_is channel limit ∙ limited_most limit (plan_bytes channel plan body) (omega (arith, size_is channel)) (omega (arith, size_is channel)))
 
-            pub body_written : (o : List ℕ) → ((8 + h) + k.len) + (length body - end) ≤ 16384 → 16384 ≤ length d → o ≡ put d 0 (plan_bytes channel plan body) → Wrote (write_body channel body limit) (Bytes (((8 + h) + k.len) + (length body - end))) d o
+            pub body_written : (o : List ℕ) → ((8 + h) + k.len) + (length body - end) ≤ 16384 → 16384 ≤ length d → o ≡ put d 0 (plan_bytes channel plan body) → Wrote (write_body channel body limit) (Ok (((8 + h) + k.len) + (length body - end))) d o
             body_written o l m x =
                 wrote_yes (write_body channel body limit) (plan_bytes channel plan body) _ d o
                 (body_is channel limit ∙ limited_in limit (plan_bytes channel plan body) (omega (arith, size_is channel)) (omega (arith, size_is channel)))
@@ -155,11 +153,11 @@ module _ (body : List ℕ) (r : C.Described) (e : described_says r ≡ described
 -- ---- write
 
 module _ (highest : ℕ) (s : List ℕ) (limit : ℕ) (out : List ℕ) where
-  pub write_small : length out < 16384 → Wrote (write_session highest s limit out) (Refused 9) out out
+  pub write_small : length out < 16384 → Wrote (write_session highest s limit out) (Err NoRoom) out out
   unfolding write_session
-  write_small h = wrote_no (write_session highest s limit out) 9 out (require_off 9 _ _ (room_no 0 out (omega arith)))
+  write_small h = wrote_no (write_session highest s limit out) NoRoom out (require_off 9 _ _ (room_no 0 out (omega arith)))
 
-  module _ (room : 16384 ≤ length out) (v : F.Frame) (e : frame_says v ≡ session_answer highest s) where
+  module _ (room : 16384 ≤ length out) (v : Result F.Frame Refusal) (e : frame_says v ≡ session_answer highest s) where
     roomy : room_for 0 out ≡ true
     roomy = room_yes 0 out (omega arith)
 
@@ -174,21 +172,21 @@ module _ (highest : ℕ) (s : List ℕ) (limit : ℕ) (out : List ℕ) where
     answer_accepted a (refuse j) q = let z : ◌≡◌ {A = ℕ} 0 1 = cc in absurd (omega arith)
     answer_accepted a (accept r) q = (r, refl, cc)
 
-    pub write_refused : (k : ℕ) → v ≡ NoFrame k → Wrote (write_session highest s limit out) (Refused k) out out
+    pub write_refused : (k : Refusal) → v ≡ Err k → Wrote (write_session highest s limit out) (Err k) out out
     unfolding write_session session_answer
     write_refused k q =
-        let x : session_frame highest s ≡ refuse k = answer_refused k (session_frame highest s) (ap frame_says (sym q) ∙ e) in
-        wrote_no (write_session highest s limit out) k out (require_on 9 _ _ roomy ∙ then_refuse (session_frame highest s) _ k x)
+        let x : session_frame highest s ≡ refuse (number_of k) = answer_refused (number_of k) (session_frame highest s) (ap frame_says (sym q) ∙ e) in
+        wrote_no (write_session highest s limit out) k out (require_on 9 _ _ roomy ∙ then_refuse (session_frame highest s) _ (number_of k) x)
 
-    pub write_empty_lem : (channel size from : ℕ) → v ≡ Empty channel size from → Wrote (write_session highest s limit out) (Refused 6) out out
+    pub write_empty_lem : (channel size from : ℕ) → v ≡ Ok (Empty channel size from) → Wrote (write_session highest s limit out) (Err BodyMalformed) out out
     unfolding session_answer
     write_empty_lem channel size from q =
         let a = answer_accepted _ (session_frame highest s) (ap frame_says (sym q) ∙ e) in
-        let c : none ≡ some (said a.0.1) = ap (λ (x : FrameSaid). x.content) a.2 in
+        let c : None ≡ Some (said a.0.1) = ap (λ (x : FrameSaid). x.content) a.2 in
         let z : ◌≡◌ {A = ℕ} 0 1 = cc in
         absurd (omega arith)
 
-    module _ (channel size from : ℕ) (p : P.Performative) (end : ℕ) (q : v ≡ Body channel size from p end) where
+    module _ (channel size from : ℕ) (p : P.Performative) (end : ℕ) (q : v ≡ Ok (Body channel size from p end)) where
       record Sent : Type 0 where
         read : Frame × Performative
         is : session_frame highest s ≡ accept read
@@ -225,5 +223,5 @@ module _ (highest : ℕ) (s : List ℕ) (limit : ℕ) (out : List ℕ) where
             ∙ rw t.on (sym x)
             ∙ ap (λ (l : List ℕ). write_body channel l limit) (sym (be ∙ t.body))
 
-        pub write_sent : (x : Written) (o : List ℕ) → Wrote (write_body channel b limit) x out o → Wrote (write_session highest s limit out) x out o
+        pub write_sent : (x : Result ℕ Refusal) (o : List ℕ) → Wrote (write_body channel b limit) x out o → Wrote (write_session highest s limit out) x out o
         write_sent x o w = subst (λ (y : Verdict (List ℕ)). Wrote y x out o) (sym session_body_lem) w

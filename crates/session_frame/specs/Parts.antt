@@ -1,30 +1,21 @@
 -- What passes between the private functions: fields one after the other, by their rows, and how much of them is written.
 -- Assumes nothing: these are definitions.
-use Rattle.std.specs.Prelude.{ℕ, zero, suc, ◌+◌, ◌-◌, ◌^◌, ◌<◌, ◌≤◌, ◌≡◌, Bool, true, false, cond, ◌&&◌, List, [], ◌∷◌, ◌++◌, length, take, drop, eqb}
-use Rattle.std.proofs.Math.Option.{Option, none, some}
+use Rattle.std.specs.Prelude.{ℕ, zero, suc, ◌+◌, ◌-◌, ◌^◌, ◌<◌, ◌≤◌, ◌≡◌, Bool, true, false, cond, ◌&&◌, List, [], ◌∷◌, ◌++◌, length, take, drop, eqb, Option, None, Some}
 use Rattle.octets.specs.Verdict.{Verdict, refuse, accept, and_then}
 use Rattle.octets.specs.Octets.{starts_with}
 use Rattle.values.specs.Value.{value_end}
-use Rattle.values.specs.Null.{null, is_null}
+use Rattle.values.specs.Null.{null, is_null, or_null}
 use Rattle.serializer.specs.Written.{text, joined, trimmed, composite_header, composite_of}
 use Rattle.performatives.specs.Fields.{FieldType, Any, UShort, UInt, String, Error, Field, fields_of}
 use Rattle.performatives.specs.Performative.{Described, described, split, performative}
 use Rattle.frame_encoder.specs.Frames.{frame_header, frame_bytes, limited}
 use Rattle.session_frame.specs.declared.field.Size.{Size}
 use Rattle.session_frame.specs.declared.field.Kept.{Kept}
-use Rattle.session_frame.specs.declared.error.Others.{Others}
-use Rattle.session_frame.specs.declared.error.Others.TheVariants.{Fields, Malformed}
 use Rattle.session_frame.specs.declared.error.ErrorParts.{ErrorParts}
-use Rattle.session_frame.specs.declared.error.ErrorParts.TheVariants.{Parts, Malformed as NoParts}
 use Rattle.session_frame.specs.declared.Plan.{Plan}
 use Rattle.session_frame.specs.Session.{text_of, error_fields, error_of, written_field, performative_written}
 
 -- ---- fields
-
--- a field that is missing is null
-abbrev pub or_null : List ℕ → List ℕ
-or_null [] = null
-or_null (b ∷ f) = b ∷ f
 
 abbrev pub end_or : ℕ → Verdict ℕ → ℕ
 end_or n (refuse k) = n
@@ -42,8 +33,8 @@ abbrev pub after : ℕ → List ℕ → List ℕ
 after count s = drop (first_len count s) s
 
 abbrev pub rows_in : Option (List Field) → List Field
-rows_in none = []
-rows_in (some rows) = rows
+rows_in None = []
+rows_in (Some rows) = rows
 
 -- the rows from the i-th on
 unfoldable pub fields_from : ℕ → ℕ → List Field
@@ -90,8 +81,8 @@ all_any (r ∷ rows) = is_any r.type && all_any rows
 
 -- whether it is a performative of which all fields are written as they are
 abbrev pub copied : Option (List Field) → Bool
-copied none = false
-copied (some rows) = all_any rows
+copied None = false
+copied (Some rows) = all_any rows
 
 -- so many fields as they are; from a malformed one on they are null
 unfoldable pub as_they_are : ℕ → List ℕ → List (List ℕ)
@@ -117,10 +108,6 @@ pub record Room (d : List ℕ) (at : ℕ) (w : List ℕ) : Type 0 where
 
 -- ---- an error
 
-abbrev pub others_says : Others → Verdict Kept
-others_says (Fields k) = accept k
-others_says Malformed = refuse 6
-
 -- what is kept of so many values in an error
 unfoldable pub others_of : ℕ → List ℕ → Verdict Kept
 others_of count s = and_then (split 14 count s) (λ fs. accept (kept_of (trimmed fs)))
@@ -129,15 +116,15 @@ others_of count s = and_then (split 14 count s) (λ fs. accept (kept_of (trimmed
 unfoldable pub parts_joined : List ℕ → ℕ → ℕ → ℕ → List ℕ
 parts_joined f from end len = text 0xa3 (text_of (take (end - from) (drop from f))) ++ take len (drop end f)
 
-unfoldable pub parts_say : List ℕ → ErrorParts → List ℕ
-parts_say f (Parts from end count len) = composite_header 29 (count + 1) (length (parts_joined f from end len)) ++ parts_joined f from end len
-parts_say f NoParts = null
+unfoldable pub parts_say : List ℕ → Option ErrorParts → List ℕ
+parts_say f (Some p) = composite_header 29 (p.count + 1) (length (parts_joined f p.from p.end p.len)) ++ parts_joined f p.from p.end p.len
+parts_say f None = null
 
-abbrev pub Within : ℕ → ErrorParts → Type 0
-Within n (Parts from end count len) = (from ≤ end) × (end + len ≤ n) × (count ≤ 2)
-Within n NoParts = Unit {0}
+abbrev pub Within : ℕ → Option ErrorParts → Type 0
+Within n (Some p) = (p.from ≤ p.end) × (p.end + p.len ≤ n) × (p.count ≤ 2)
+Within n None = Unit {0}
 
-pub record PartsOf (f : List ℕ) (r : ErrorParts) : Type 0 where
+pub record PartsOf (f : List ℕ) (r : Option ErrorParts) : Type 0 where
   pub written : parts_say f r ≡ error_of (error_fields f (described f))
   pub within : Within (length f) r
 

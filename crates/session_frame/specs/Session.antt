@@ -1,8 +1,7 @@
 -- A session's frame, lent as a whole frame and written out: its performative in the written form, defaults written out, fields without a checked type
 -- copied (document 01, "Frame and body").
 -- Assumes nothing: these are definitions.
-use Rattle.std.specs.Prelude.{ℕ, cond, List, [], ◌∷◌, ◌++◌, drop}
-use Rattle.std.proofs.Math.Option.{Option, none, some}
+use Rattle.std.specs.Prelude.{ℕ, cond, List, [], ◌∷◌, ◌++◌, drop, Option, None, Some}
 use Rattle.octets.specs.Verdict.{Verdict, refuse, accept, require, and_then}
 use Rattle.octets.specs.Output.{room_for}
 use Rattle.octets.specs.Octets.{starts_with}
@@ -37,12 +36,12 @@ shortest String f = text 0xa1 (text_of f)
 shortest Error f = error_of (error_fields f (described f))
 
 abbrev pub default_of : FieldType → Option ℕ → List ℕ
-default_of t none = null
-default_of Any (some n) = null
-default_of UShort (some n) = ushort n
-default_of UInt (some n) = uint n
-default_of String (some n) = null
-default_of Error (some n) = null
+default_of t None = null
+default_of Any (Some n) = null
+default_of UShort (Some n) = ushort n
+default_of UInt (Some n) = uint n
+default_of String (Some n) = null
+default_of Error (Some n) = null
 
 unfoldable pub written_as : FieldType → Option ℕ → List ℕ → List ℕ
 written_as t default f = cond (is_null f) (default_of t default) (shortest t f)
@@ -57,8 +56,8 @@ written_fields (r ∷ rows) [] = written_field r null ∷ written_fields rows []
 written_fields (r ∷ rows) (f ∷ fs) = written_field r f ∷ written_fields rows fs
 
 abbrev pub fields_written : Option (List Field) → List (List ℕ) → List (List ℕ)
-fields_written none fs = fs
-fields_written (some rows) fs = written_fields rows fs
+fields_written None fs = fs
+fields_written (Some rows) fs = written_fields rows fs
 
 -- a performative that was read, in the written form
 unfoldable pub performative_written : Performative → List ℕ

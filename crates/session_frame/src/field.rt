@@ -1,14 +1,15 @@
 // A field by its type: how many bytes it takes as it is written, and how it is laid.
 ghost use Rattle.std.specs.Prelude.{◌≡◌, false, [], ◌∷◌, ◌+◌, ◌*◌, ◌^◌, ◌<◌, length};
 ghost use Rattle.octets.specs.Octets.{big_endian, put};
-ghost use Rattle.values.specs.Null.{is_null};
-ghost use Rattle.performatives.specs.Answers.{type_says, default_says};
-ghost use Rattle.session_frame.specs.Session.{text_of, default_of, shortest, written_as};
-ghost use Rattle.session_frame.specs.Parts.{or_null, number_bytes, text_start, Sized, size_of, kept_before, Room};
+ghost use Rattle.values.specs.Null.{is_null, or_null};
+ghost use Rattle.performatives.specs.Answers.{type_says, field_says};
+ghost use Rattle.session_frame.specs.Session.{text_of, default_of, shortest, written_field};
+ghost use Rattle.session_frame.specs.Parts.{number_bytes, text_start, Sized, size_of, kept_before, Room};
 
 use crate::error::{error_size, put_error};
-use performatives::{Default, FieldType};
+use performatives::{Field, FieldType, starts_with};
 use serializer::Text;
+use values::is_null;
 
 // How many bytes a field takes, and whether it is null.
 #[derive(Clone, Copy)]
@@ -42,15 +43,6 @@ pub(crate) fn before(field: Size, rest: Kept) -> Kept
     more
 }
 
-pub(crate) fn is_null(f: &[u8]) -> bool
-    ensures { result ≡ is_null (or_null f.now) }
-{
-    if f.len() == 0 {
-        return true;
-    }
-    f[0] == 0x40
-}
-
 // What stands after the format code.
 fn number_of(f: &[u8]) -> u64
     ensures { (result ≡ big_endian (number_bytes f.now)) × (result < 2 ^ (8 * length (number_bytes f.now))) }
@@ -65,13 +57,7 @@ fn number_of(f: &[u8]) -> u64
 fn text_start(f: &[u8]) -> usize
     ensures { result ≡ text_start f.now }
 {
-    if f.len() == 0 {
-        return 5;
-    }
-    if f[0] == 0xa1 {
-        return 2;
-    }
-    if f[0] == 0xa3 {
+    if starts_with(f, &[0xa1, 0xa3]) {
         return 2;
     }
     5
@@ -87,14 +73,14 @@ pub(crate) fn text_of(f: &[u8]) -> &[u8]
     &f[from..]
 }
 
-fn default_size(kind: FieldType, default: Default) -> Size
-    ensures { result ≡ size_of (default_of (type_says kind) (default_says default)) }
+fn default_size(row: Field) -> Size
+    ensures { result ≡ size_of (default_of (type_says row.kind) row.default) }
 {
     let null = Size { len: 1, null: true };
-    let Default::Number(n) = default else {
+    let Some(n) = row.default else {
         return null;
     };
-    match kind {
+    match row.kind {
         FieldType::Any => null,
         FieldType::UShort => Size {
             len: 3,
@@ -115,14 +101,14 @@ pub(crate) fn put_null(out: &mut [u8], at: usize)
     octets::put_number(out, at, 1, 0x40);
 }
 
-fn put_default(out: &mut [u8], at: usize, kind: FieldType, default: Default)
-    ensures { out.new ≡ put out.old at (default_of (type_says kind) (default_says default)) }
+fn put_default(out: &mut [u8], at: usize, row: Field)
+    ensures { out.new ≡ put out.old at (default_of (type_says row.kind) row.default) }
 {
-    let Default::Number(n) = default else {
+    let Some(n) = row.default else {
         put_null(out, at);
         return;
     };
-    match kind {
+    match row.kind {
         FieldType::Any => put_null(out, at),
         FieldType::UShort => serializer::put_ushort(out, at, (n % 65536) as u16),
         FieldType::UInt => serializer::put_uint(out, at, n),
@@ -170,32 +156,26 @@ fn put_shortest(out: &mut [u8], at: usize, f: &[u8], kind: FieldType)
 }
 
 // The size of a field as it is written; nothing stands for a field that is missing.
-pub(crate) fn field_size(f: &[u8], kind: FieldType, default: Default) -> Size
-    requires { Sized (type_says kind) (or_null f.now) }
-    ensures { result ≡ size_of (written_as (type_says kind) (default_says default) (or_null f.now)) }
+pub(crate) fn field_size(f: &[u8], row: Field) -> Size
+    requires { Sized (type_says row.kind) (or_null f.now) }
+    ensures { result ≡ size_of (written_field (field_says row) (or_null f.now)) }
 {
     if is_null(f) {
-        return default_size(kind, default);
+        return default_size(row);
     }
-    shortest_size(f, kind)
+    shortest_size(f, row.kind)
 }
 
 // Lays a field, and answers where the next one begins.
-pub(crate) fn put_field(
-    out: &mut [u8],
-    at: usize,
-    f: &[u8],
-    kind: FieldType,
-    default: Default,
-) -> usize
-    requires { Sized (type_says kind) (or_null f.now) × Room out.old at (written_as (type_says kind) (default_says default) (or_null f.now)) }
-    ensures { (result ≡ at + length (written_as (type_says kind) (default_says default) (or_null f.now))) × (out.new ≡ put out.old at (written_as (type_says kind) (default_says default) (or_null f.now))) }
+pub(crate) fn put_field(out: &mut [u8], at: usize, f: &[u8], row: Field) -> usize
+    requires { Sized (type_says row.kind) (or_null f.now) × Room out.old at (written_field (field_says row) (or_null f.now)) }
+    ensures { (result ≡ at + length (written_field (field_says row) (or_null f.now))) × (out.new ≡ put out.old at (written_field (field_says row) (or_null f.now))) }
 {
-    let next = at + field_size(f, kind, default).len;
+    let next = at + field_size(f, row).len;
     if is_null(f) {
-        put_default(out, at, kind, default);
+        put_default(out, at, row);
         return next;
     }
-    put_shortest(out, at, f, kind);
+    put_shortest(out, at, f, row.kind);
     next
 }

@@ -9,7 +9,7 @@ ghost use Rattle.std.specs.Prelude.{◌≡◌, true, ◌-◌, ◌^◌, ◌<◌, 
 ghost use Rattle.octets.specs.Octets.{put};
 ghost use Rattle.octets.specs.Output.{Wrote};
 ghost use Rattle.octets.specs.Verdict.{accepts};
-ghost use Rattle.serializer.specs.Written.{composite_header, joined, trimmed};
+ghost use Rattle.serializer.specs.Written.{joined, trimmed};
 ghost use Rattle.performatives.specs.Fields.{fields_of};
 ghost use Rattle.performatives.specs.Performative.{performative};
 ghost use Rattle.session_frame.specs.Session.{write_session};
@@ -31,22 +31,7 @@ ghost use Rattle.session_frame.specs.Parts.{
 
 use field::{Kept, before, field_size, put_field};
 use frame_decoder::Frame;
-use octets::Written;
-use performatives::{Described, Row};
-use values::Value;
-
-// The number of bytes before the fields of a described list.
-fn header_len(count: usize, size: usize, code: u8) -> usize
-    ensures { result ≡ length (composite_header code count size) }
-{
-    if count == 0 {
-        return 4;
-    }
-    if size <= 254 {
-        return 6;
-    }
-    12
-}
+use octets::Refusal;
 
 // ---- fields
 
@@ -57,19 +42,7 @@ fn first_len(s: &[u8], count: u32) -> usize
     if count == 0 {
         return 0;
     }
-    let Value::End(n) = values::value_end(s, values::DEPTH) else {
-        return 0;
-    };
-    n
-}
-
-fn one_less(count: u32) -> u32
-    ensures { result ≡ count - 1 }
-{
-    if count == 0 {
-        return 0;
-    }
-    count - 1
+    values::value_end(s, values::DEPTH).unwrap_or(0)
 }
 
 // What is kept of `count` fields, by their rows from `i` on.
@@ -77,17 +50,12 @@ fn trim_fields(s: &[u8], code: u64, i: usize, count: u32) -> Kept
     requires { Checked (fields_from code i) count s.now }
     ensures { result ≡ kept_of (trimmed (written_from (fields_from code i) count s.now)) }
 {
-    let Row::Field {
-        kind,
-        mandatory: _,
-        default,
-    } = performatives::field_row(code, i)
-    else {
+    let Some(row) = performatives::field_row(code, i) else {
         return Kept { count: 0, len: 0 };
     };
     let n = first_len(s, count);
-    let field = field_size(&s[..n], kind, default);
-    let rest = trim_fields(&s[n..], code, i + 1, one_less(count));
+    let field = field_size(&s[..n], row);
+    let rest = trim_fields(&s[n..], code, i + 1, count.saturating_sub(1));
     before(field, rest)
 }
 
@@ -99,17 +67,20 @@ fn put_fields(out: &mut [u8], at: usize, s: &[u8], code: u64, i: usize, count: u
     if left == 0 {
         return;
     }
-    let Row::Field {
-        kind,
-        mandatory: _,
-        default,
-    } = performatives::field_row(code, i)
-    else {
+    let Some(row) = performatives::field_row(code, i) else {
         return;
     };
     let n = first_len(s, count);
-    let next = put_field(out, at, &s[..n], kind, default);
-    put_fields(out, next, &s[n..], code, i + 1, one_less(count), left - 1);
+    let next = put_field(out, at, &s[..n], row);
+    put_fields(
+        out,
+        next,
+        &s[n..],
+        code,
+        i + 1,
+        count.saturating_sub(1),
+        left - 1,
+    );
 }
 
 // ---- fields that are written as they are
@@ -129,10 +100,9 @@ fn kept_as_is(s: &[u8], count: u32) -> Kept
     ensures { result ≡ kept_of (trimmed (as_they_are count s.now)) }
 {
     let mut at: usize = 0;
-    let mut i: u32 = 0;
     let mut n: usize = 0;
     let mut len: usize = 0;
-    while i < count {
+    for i in 0..count {
         let end = values::end_at(s, at, values::DEPTH);
         if end == 0 {
             return Kept { count: n, len };
@@ -142,7 +112,6 @@ fn kept_as_is(s: &[u8], count: u32) -> Kept
             len = end;
         }
         at = end;
-        i += 1;
     }
     Kept { count: n, len }
 }
@@ -178,7 +147,7 @@ fn put_head(out: &mut [u8], channel: u16, size: u32, plan: Plan) -> usize
 {
     frame_encoder::put_frame_header(out, size, channel);
     serializer::put_composite_header(out, 8, plan.code as u8, plan.kept as u8, plan.len as u32);
-    8 + header_len(plan.kept, plan.len, plan.code as u8)
+    8 + serializer::composite_header_len(plan.kept, plan.len, plan.code as u8)
 }
 
 // Lays the fields that are kept; s are the bytes of all.
@@ -206,54 +175,48 @@ fn put_frame(out: &mut [u8], body: &[u8], channel: u16, size: u32, plan: Plan)
     octets::copy(out, at + plan.len, &body[end..]);
 }
 
-fn write_body(out: &mut [u8], body: &[u8], channel: u16, limit: u32) -> Written
+fn write_body(out: &mut [u8], body: &[u8], channel: u16, limit: u32) -> Result<usize, Refusal>
     requires { (accepts (performative body.now) ≡ true) × (16384 ≤ length out.old) }
     ensures { Wrote (write_body channel body.now limit) result out.old out.new }
 {
-    let Described::List {
-        code,
-        count,
-        from,
-        end,
-    } = performatives::described_list(body)
-    else {
-        return Written::Refused(6);
+    let Some(list) = performatives::described_list(body) else {
+        return Err(Refusal::BodyMalformed);
     };
-    let kept = trim_all(&body[from..end], code, count);
+    let kept = trim_all(&body[list.from..list.end], list.code, list.count);
     let plan = Plan {
-        code,
-        count,
-        from,
-        end,
+        code: list.code,
+        count: list.count,
+        from: list.from,
+        end: list.end,
         kept: kept.count,
         len: kept.len,
     };
-    let size = 8 + header_len(kept.count, kept.len, code as u8) + kept.len + (body.len() - end);
+    let head = 8 + serializer::composite_header_len(kept.count, kept.len, list.code as u8);
+    let size = head + kept.len + (body.len() - list.end);
     if (limit as usize) < size {
-        return Written::Refused(27);
+        return Err(Refusal::OverWritingLimit);
     }
     if 16384 < size {
-        return Written::Refused(27);
+        return Err(Refusal::OverWritingLimit);
     }
     put_frame(out, body, channel, size as u32, plan);
-    Written::Bytes(size)
+    Ok(size)
 }
 
 // Writes the frame that is lent, which a session sends: a Begin's remote-channel is at most `highest`, and what is written takes at most `limit` bytes.
 // Bytes after the lent frame are not looked at.
-pub fn write(frame: &[u8], highest: u16, limit: u32, out: &mut [u8]) -> Written
+pub fn write(frame: &[u8], highest: u16, limit: u32, out: &mut [u8]) -> Result<usize, Refusal>
     ensures { Wrote (write_session highest frame.now limit out.old) result out.old out.new }
 {
     if out.len() < 16384 {
-        return Written::Refused(9);
+        return Err(Refusal::NoRoom);
     }
-    match frame_decoder::session_frame(frame, highest) {
-        Frame::Refused(k) => Written::Refused(k),
+    match frame_decoder::session_frame(frame, highest)? {
         Frame::Empty {
             channel: _,
             size: _,
             from: _,
-        } => Written::Refused(6),
+        } => Err(Refusal::BodyMalformed),
         Frame::Body {
             channel,
             size: _,

@@ -3,11 +3,9 @@
 use mathlib.Core.Path.{◌≡◌, refl, sym, ap, ◌∙◌}
 use mathlib.Core.Bool.{Bool, true, false}
 use mathlib.Core.List.{List, [], ◌∷◌}
-use Prim.Native.Nat.{ℕ, zero, suc, ◌+◌, ◌-◌, ◌^◌, ◌<◌, ◌≤◌}
+use Prim.Native.Nat.{ℕ, zero, suc, ◌+◌, ◌-◌, ◌<◌, ◌≤◌}
 use native.Mathlib.Nat.{sub-zero}
 use native.Mathlib.Omega.{arith}
-use mir.Syntax.{w64}
-use mir.Val.{Fits}
 use lib.Dec.{leb}
 use lib.ListN.{length, take, drop, length-take, length-drop}
 use lib.Seq.{drop-drop, take-take, length-take-le}
@@ -15,6 +13,9 @@ use borrow.Author.Tests.{leb-true, leb-false}
 use Rattle.octets.specs.Verdict.{Verdict, refuse, accept, and_then}
 use Rattle.octets.specs.Octets.{big_endian}
 use Rattle.values.specs.Value.{Reader, Shape, list, bytes, paired_in, opening, items, compound_end, run}
+use Rattle.values.specs.declared.format_code.Shape as S
+use Rattle.values.specs.declared.format_code.Width.{Width}
+use Rattle.values.specs.declared.format_code.Width.TheVariants.{One, Four}
 use Rattle.values.specs.Answers.{place_after, width_of, shape_of, end_in}
 use Rattle.values.proofs.Cases.{bytes_yes, bytes_no}
 use Rattle.values.proofs.Apart.{number_was, number_is, Opened, opening_was, opening_is, Compounded, compound_was, compound_is}
@@ -37,22 +38,22 @@ room shape w size count t o =
     let l : w ≤ size = omega (arith, b.1, length-take size (drop w t)) in
     (l, o.fits, a.0, b.0 ∙ rw (take-take w size (drop w t) l))
 
-module _ (s : List ℕ) (at w : ℕ) (wide : Bool) (e : w ≡ width_of wide) where
-  pub sized_cut : length s - at < w + w → 0 ≡ place_after at (end_in (width_of wide) (drop at s))
+module _ (s : List ℕ) (at w : ℕ) (width : Width) (e : w ≡ width_of width) where
+  pub sized_cut : length s - at < w + w → 0 ≡ place_after at (end_in (width_of width) (drop at s))
   sized_cut h = rw (← e) (unopened at w (drop at s) (λ size count o. omega (arith, room list w size count (drop at s) o, length-drop at s)))
 
-  module _ (size : ℕ) (q : size ≡ big_endian (take (width_of wide) (drop at s))) where
-    pub sized_small : size < w → 0 ≡ place_after at (end_in (width_of wide) (drop at s))
+  module _ (size : ℕ) (q : size ≡ big_endian (take (width_of width) (drop at s))) where
+    pub sized_small : size < w → 0 ≡ place_after at (end_in (width_of width) (drop at s))
     sized_small h = rw (← e) (unopened at w (drop at s) (λ n count o. omega (arith, room list w n count (drop at s) o, rw (← e) at q)))
 
-    pub sized_is : (r : ℕ) → w + w ≤ length s - at → at ≤ length s → w ≤ size → r ≡ place_after at (bytes (w + size) (drop at s)) → r ≡ place_after at (end_in (width_of wide) (drop at s))
+    pub sized_is : (r : ℕ) → w + w ≤ length s - at → at ≤ length s → w ≤ size → r ≡ place_after at (bytes (w + size) (drop at s)) → r ≡ place_after at (end_in (width_of width) (drop at s))
     unfolding end_in and_then paired_in
     sized_is r l h k g = g ∙ go (leb (w + size) (length (drop at s))) refl
       where
         q' : size ≡ big_endian (take w (drop at s))
         q' = rw (← e) at q
 
-        go : (b : Bool) → leb (w + size) (length (drop at s)) ≡ b → place_after at (bytes (w + size) (drop at s)) ≡ place_after at (end_in (width_of wide) (drop at s))
+        go : (b : Bool) → leb (w + size) (length (drop at s)) ≡ b → place_after at (bytes (w + size) (drop at s)) ≡ place_after at (end_in (width_of width) (drop at s))
         go true t =
             let m : w + size ≤ length (drop at s) = leb-true _ _ t in
             let c : w ≤ length (take size (drop w (drop at s))) = omega (arith, length-take size (drop w (drop at s)), length-drop w (drop at s)) in
@@ -86,23 +87,23 @@ as_list : (shape : Shape) (w size count : ℕ) (t : List ℕ) → Opened shape w
 unfolding paired_in
 as_list shape w size count t o = record { sized = o.sized; fits = o.fits; counted = o.counted; paired = refl }
 
-wide_some : (wide : Bool) → 0 < width_of wide
-wide_some true = omega arith
-wide_some false = omega arith
+width_some : (width : Width) → 0 < width_of width
+width_some One = omega arith
+width_some Four = omega arith
 
-pub compound_off : (s : List ℕ) (at end : ℕ) (wide : Bool) (d shape : ℕ) → end ≡ place_after at (end_in (width_of wide) (drop at s)) → end ≡ 0 → 0 ≡ place_after at (compound_end (run d) (shape_of shape) (width_of wide) (drop at s))
+pub compound_off : (s : List ℕ) (at end : ℕ) (width : Width) (d : ℕ) (shape : S.Shape) → end ≡ place_after at (end_in (width_of width) (drop at s)) → end ≡ 0 → 0 ≡ place_after at (compound_end (run d) (shape_of shape) (width_of width) (drop at s))
 unfolding end_in and_then
-compound_off s at end wide d shape p z =
-    no_compound at (run d) (shape_of shape) (width_of wide) (drop at s) (λ n c.
-    let q : end ≡ at + (width_of wide + c.size) = p ∙ rw (opening_is list (width_of wide) (drop at s) c.size c.count (as_list (shape_of shape) (width_of wide) c.size c.count (drop at s) c.opens)) in
-    omega (arith, wide_some wide))
+compound_off s at end width d shape p z =
+    no_compound at (run d) (shape_of shape) (width_of width) (drop at s) (λ n c.
+    let q : end ≡ at + (width_of width + c.size) = p ∙ rw (opening_is list (width_of width) (drop at s) c.size c.count (as_list (shape_of shape) (width_of width) c.size c.count (drop at s) c.opens)) in
+    omega (arith, width_some width))
 
 pub part_count : (s : List ℕ) (end : ℕ) → end ≤ length s → end ≡ length (take end s)
 part_count s end h = sym (length-take-le end s h)
 
-module _ (s : List ℕ) (at end w : ℕ) (wide : Bool) (e : w ≡ width_of wide) (p : end ≡ place_after at (end_in (width_of wide) (drop at s))) where
-  some : 0 < w
-  some = rw e (wide_some wide)
+module _ (s : List ℕ) (at end w : ℕ) (width : Width) (e : w ≡ width_of width) (p : end ≡ place_after at (end_in (width_of width) (drop at s))) where
+  Some : 0 < w
+  Some = rw e (width_some width)
 
   p' : end ≡ place_after at (end_in w (drop at s))
   p' = rw (← e) at p
@@ -121,24 +122,18 @@ module _ (s : List ℕ) (at end w : ℕ) (wide : Bool) (e : w ≡ width_of wide)
     lies =
         let o = opened in
         let l = room list w o.0 o.1 (drop at s) o.2 in
-        (omega (arith, l, o.3), omega (arith, l, o.3, length-drop at s, some))
+        (omega (arith, l, o.3), omega (arith, l, o.3, length-drop at s, Some))
 
-    pub count_in : at + w + width_of wide ≤ length s
+    pub count_in : at + w + width_of width ≤ length s
     count_in = omega (arith, lies)
 
-    pub count_fits : length s < 2 ^ 64 → Fits w64 (at + w)
-    count_fits l = omega (arith, lies)
-
-    pub from_fits : length s < 2 ^ 64 → Fits w64 (at + w + w)
-    from_fits l = omega (arith, lies)
-
     pub from_some : 0 < at + w + w
-    from_some = omega (arith, some)
+    from_some = omega (arith, Some)
 
     pub from_in : at + w + w ≤ length (take end s)
     from_in = omega (arith, lies, length-take end s)
 
-    module _ (count : ℕ) (q : count ≡ big_endian (take (width_of wide) (drop (at + w) s))) where
+    module _ (count : ℕ) (q : count ≡ big_endian (take (width_of width) (drop (at + w) s))) where
       counts : opened.1 ≡ count
       counts =
           let o = opened in
@@ -152,8 +147,8 @@ module _ (s : List ℕ) (at end w : ℕ) (wide : Bool) (e : w ≡ width_of wide)
           let b = room shape w c.size c.count (drop at s) c.opens in
           (b.2 ∙ sym a.2, b.3 ∙ sym a.3 ∙ counts)
 
-      module _ (d shape : ℕ) where
-        pub compound_odd : (b : Bool) → b ≡ paired_in (shape_of shape) count → b ≡ false → 0 ≡ place_after at (compound_end (run d) (shape_of shape) (width_of wide) (drop at s))
+      module _ (d : ℕ) (shape : S.Shape) where
+        pub compound_odd : (b : Bool) → b ≡ paired_in (shape_of shape) count → b ≡ false → 0 ≡ place_after at (compound_end (run d) (shape_of shape) (width_of width) (drop at s))
         compound_odd b v t =
             rw (← e) (no_compound at (run d) (shape_of shape) w (drop at s) (λ n c.
             let y : true ≡ false = sym c.opens.paired ∙ rw (same d (shape_of shape) n c).1 (sym v ∙ t) in
@@ -168,7 +163,7 @@ module _ (s : List ℕ) (at end w : ℕ) (wide : Bool) (e : w ≡ width_of wide)
               let j : at + (w + w) ≡ at + w + w = omega arith in
               drop_part (at + w + w) end s ∙ rw (k, drop-drop, j)
 
-          pub compound_filled : (b : Bool) → b ≡ paired_in (shape_of shape) count → b ≡ true → last ≡ end → end ≡ place_after at (compound_end (run d) (shape_of shape) (width_of wide) (drop at s))
+          pub compound_filled : (b : Bool) → b ≡ paired_in (shape_of shape) count → b ≡ true → last ≡ end → end ≡ place_after at (compound_end (run d) (shape_of shape) (width_of width) (drop at s))
           compound_filled b v t g = go (items (run d) (shape_of shape) count (drop (at + w + w) (take end s))) refl (sym g ∙ f)
             where
               o : (size : ℕ) × (count : ℕ) × Opened list w (drop at s) size count × (end ≡ at + (w + size))
@@ -177,7 +172,7 @@ module _ (s : List ℕ) (at end w : ℕ) (wide : Bool) (e : w ≡ width_of wide)
               fits : w ≤ o.0
               fits = (room list w o.0 o.1 (drop at s) o.2).0
 
-              go : (x : Verdict ℕ) → items (run d) (shape_of shape) count (drop (at + w + w) (take end s)) ≡ x → end ≡ place_after (at + w + w) x → end ≡ place_after at (compound_end (run d) (shape_of shape) (width_of wide) (drop at s))
+              go : (x : Verdict ℕ) → items (run d) (shape_of shape) count (drop (at + w + w) (take end s)) ≡ x → end ≡ place_after (at + w + w) x → end ≡ place_after at (compound_end (run d) (shape_of shape) (width_of width) (drop at s))
               go (accept m) q h =
                   let k : m ≡ o.0 - w = omega (arith, o.3, fits) in
                   let i : items (run d) (shape_of shape) count (take (o.0 - w) (drop (w + w) (drop at s))) ≡ accept (o.0 - w) = ap (items (run d) (shape_of shape) count) (sym inner) ∙ q ∙ ap accept k in
@@ -185,7 +180,7 @@ module _ (s : List ℕ) (at end w : ℕ) (wide : Bool) (e : w ≡ width_of wide)
                   o.3 ∙ rw (← e, compound_is (run d) (shape_of shape) w (drop at s) o.0 count c fits i)
               go (refuse k) q h = absurd (z h)
 
-          pub compound_else : (last ≡ end → ⊥) → 0 ≡ place_after at (compound_end (run d) (shape_of shape) (width_of wide) (drop at s))
+          pub compound_else : (last ≡ end → ⊥) → 0 ≡ place_after at (compound_end (run d) (shape_of shape) (width_of width) (drop at s))
           compound_else g =
               rw (← e) (no_compound at (run d) (shape_of shape) w (drop at s) (λ n c.
               let o = opened in

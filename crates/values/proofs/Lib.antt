@@ -12,3 +12,4 @@ pub mod Steps
 pub mod Compounds
 pub mod Written
 pub mod Examples
+pub mod Missing

@@ -4,70 +4,46 @@
 use mathlib.Core.Path.{◌≡◌, refl, sym, ap, ◌∙◌}
 use mathlib.Core.Bool.{Bool, true, false, cond}
 use mathlib.Core.List.{List, ◌∷◌}
-use Prim.Native.Nat.{ℕ, zero, suc, ◌+◌, ◌*◌, ◌-◌, ◌/◌, ◌%◌, ◌^◌, ◌<◌, ◌≤◌}
-use native.Mathlib.Nat.{mul-le-mul_left, le_of_lt, zero-add, add-zero, sub-zero}
+use Prim.Native.Nat.{ℕ, zero, suc, ◌+◌, ◌*◌, ◌-◌, ◌<◌, ◌≤◌}
+use native.Mathlib.Nat.{zero-add, add-zero, sub-zero}
 use native.Mathlib.Numerals.{sub-one}
 use native.Mathlib.Omega.{arith}
-use mir.Syntax.{w64}
-use mir.Val.{Fits}
+use Rattle.std.specs.Prelude.{Option, None, Some}
 use lib.Dec.{leb, eqb}
-use lib.ListN.{length, take, drop, get_or, length-take, length-drop}
-use lib.Seq.{length-take-le, take_all, drop-cons, drop-drop, get_or-drop}
+use lib.ListN.{length, take, drop, get_or, length-drop}
+use lib.Seq.{drop-cons, drop-drop, get_or-drop}
 use borrow.Author.Tests.{eqb-true, eqb-false, lt-leb, eq-eqb, ne_eqb}
 use Rattle.octets.specs.Verdict.{Verdict, refuse, accept, and_then}
 use Rattle.octets.specs.Octets.{big_endian, big_endian_from}
 use Rattle.octets.proofs.Laws.{require_off}
-use Rattle.values.specs.Value.{Reader, Kind, fixed, boolean, variable, compound, codes, kind_in, kind_of, followed_by, times, bytes, number_in, boolean_end, variable_end, paired_in, items, compound_end, body, after_code, level, run, value_end}
+use Rattle.values.specs.Value.{Reader, Shape, list, map, array, Kind, fixed, boolean, variable, compound, codes, kind_in, kind_of, followed_by, times, bytes, number_in, boolean_end, variable_end, items, compound_end, body, after_code, level, run, value_end}
 use Rattle.values.specs.Widths.{fixed_width}
 use Rattle.values.specs.Plain.{is_known, plain_kind, is_plain}
-use Rattle.values.specs.declared.Value.{Value}
+use Rattle.values.specs.declared.format_code.Shape as S
+use Rattle.values.specs.declared.format_code.Shape.TheVariants.{List as ListShape, Map as MapShape, Array as ArrayShape}
+use Rattle.values.specs.declared.format_code.Width.{Width}
+use Rattle.values.specs.declared.format_code.Width.TheVariants.{One}
 use Rattle.values.specs.declared.format_code.Kind as K
 use Rattle.values.specs.declared.format_code.Kind.TheVariants.{Fixed, Boolean, Variable, List as Lists, Map, Array}
-use Rattle.values.specs.declared.format_code.Code.{Code}
-use Rattle.values.specs.declared.format_code.Code.TheVariants.{Known, Unknown}
-use Rattle.values.specs.Answers.{ended, place_after, width_of, shape_of, kind_said, code_said}
+use Rattle.values.specs.Answers.{well_formed, place_after, width_of, shape_of, kind_said, code_said}
 use Rattle.values.proofs.Widths.{boolean_width}
 use Rattle.values.proofs.Cases.{bytes_yes, bytes_no, boolean_none, boolean_yes, boolean_no, times_bytes, run_none, run_bodies, run_undescribed, run_unknown, run_none_of}
 use Rattle.values.proofs.Turns.{place_plus, left, turn_first}
 use Rattle.values.proofs.Apart.{number_is}
 use Rattle.values.proofs.Laws.{code_not_zero, value_of_code}
 use Rattle.values.proofs.Places.{place_of, place_none, drop_past, run_off, run_on, run_in, place_off, place_on, place_in}
-use Rattle.values.proofs.Plain.{known_kind, unknown_kind, plain_fixed, plain_variable, small_kind}
+use Rattle.values.proofs.Plain.{known_kind, unknown_kind, plain_fixed, plain_variable}
 
 -- ---- sizes and counts
 
-module _ (s : List ℕ) (at : ℕ) (wide : Bool) (h : at + width_of wide ≤ length s) where
-  module _ (t : wide ≡ true) where
-    pub wide_in : at + 4 ≤ length s
-    wide_in = rw t at h
-
-    pub wide_fits : length s < 2 ^ 64 → Fits w64 (at + 4)
-    wide_fits l = omega (arith, wide_in)
-
-    four : take 8 (take ((at + 4) - at) (drop at s)) ≡ take 4 (drop at s)
-    four =
-        let k : (at + 4) - at ≡ 4 = omega arith in
-        rw k (take_all 8 (take 4 (drop at s)) (omega (arith, length-take 4 (drop at s))))
-
-    module _ (x : ℕ) where
-      pub wide_is : x ≡ big_endian (take 8 (take ((at + 4) - at) (drop at s))) → x ≡ big_endian (take (width_of wide) (drop at s))
-      wide_is e = e ∙ rw (four, t)
-
-      pub wide_low : x < 2 ^ (8 * length (take 8 (take ((at + 4) - at) (drop at s)))) → x < 2 ^ 32
-      wide_low e =
-          let l : length (take 4 (drop at s)) ≡ 4 = length-take-le 4 (drop at s) (omega (arith, wide_in, length-drop at s)) in
-          rw (four, l) at e
-
-  module _ (t : wide ≡ false) where
-    pub narrow_in : at < length s
+module _ (s : List ℕ) (at : ℕ) (width : Width) (h : at + width_of width ≤ length s) where
+  module _ (t : width ≡ One) where
+    narrow_in : at < length s
     narrow_in = let k : at + 1 ≤ length s = rw t at h in omega arith
 
-    pub narrow_is : (x : ℕ) → x ≡ get_or s at 0 → x ≡ big_endian (take (width_of wide) (drop at s))
+    pub narrow_is : (x : ℕ) → x ≡ get_or s at 0 → x ≡ big_endian (take (width_of width) (drop at s))
     unfolding big_endian big_endian_from
     narrow_is x e = e ∙ rw (t, drop-cons s at 0 narrow_in) (sym (zero-add (get_or s at 0)))
-
-pub low_fits : (x : ℕ) → x < 256 → x < 2 ^ 32
-low_fits x h = omega arith
 
 -- ---- bodies without values in them
 
@@ -80,13 +56,6 @@ module _ (s : List ℕ) (at n : ℕ) where
 
   pub bytes_on : at + n ≤ length s → at + n ≡ place_after at (bytes n (drop at s))
   bytes_on h = rw (← bytes_yes n (drop at s) (omega (arith, length-drop at s)))
-
--- a slice has fewer than 2 ^ 63 bytes
-pub end_fits : (s : List ℕ) (at n : ℕ) → length s * 1 < 2 ^ 63 → at ≤ length s → n < 2 ^ 63 → Fits w64 (at + n)
-end_fits s at n l h k = omega arith
-
-pub sum_fits : (s : List ℕ) (at n : ℕ) → length s < 2 ^ 64 → at ≤ length s → n ≤ length s - at → Fits w64 (at + n)
-sum_fits s at n l h k = omega arith
 
 module _ (s : List ℕ) (at w : ℕ) (e : w ≡ fixed_width 0x56) where
   pub boolean_cut : length s - at < w → 0 ≡ place_after at (boolean_end (drop at s))
@@ -105,21 +74,15 @@ module _ (s : List ℕ) (at w : ℕ) (e : w ≡ fixed_width 0x56) where
     pub boolean_in : at < length s
     boolean_in = omega (arith, boolean_width)
 
-module _ (s : List ℕ) (at : ℕ) (wide : Bool) (w : ℕ) (e : w ≡ width_of wide) where
-  pub variable_cut : length s - at < w → 0 ≡ place_after at (variable_end (width_of wide) (drop at s))
+module _ (s : List ℕ) (at : ℕ) (width : Width) (w : ℕ) (e : w ≡ width_of width) where
+  pub variable_cut : length s - at < w → 0 ≡ place_after at (variable_end (width_of width) (drop at s))
   unfolding variable_end number_in and_then
-  variable_cut h = rw (require_off 6 (leb (width_of wide) (length (drop at s))) (λ _. accept (big_endian (take (width_of wide) (drop at s)))) (lt-leb (width_of wide) (length (drop at s)) (omega (arith, length-drop at s))))
+  variable_cut h = rw (require_off 6 (leb (width_of width) (length (drop at s))) (λ _. accept (big_endian (take (width_of width) (drop at s)))) (lt-leb (width_of width) (length (drop at s)) (omega (arith, length-drop at s))))
 
   module _ (k : w ≤ length s - at) (h : at ≤ length s) where
-    pub number_in_lem : at + width_of wide ≤ length s
-    number_in_lem = omega arith
-
-    pub variable_is : (n r : ℕ) → n ≡ big_endian (take (width_of wide) (drop at s)) → r ≡ place_after at (bytes (w + n) (drop at s)) → r ≡ place_after at (variable_end (width_of wide) (drop at s))
+    pub variable_is : (n r : ℕ) → n ≡ big_endian (take (width_of width) (drop at s)) → r ≡ place_after at (bytes (w + n) (drop at s)) → r ≡ place_after at (variable_end (width_of width) (drop at s))
     unfolding variable_end and_then
-    variable_is n r q g = g ∙ rw (number_is (width_of wide) (drop at s) (omega (arith, length-drop at s)), ← q, e)
-
-pub size_fits : (w n : ℕ) → w ≤ 4 → n < 2 ^ 32 → Fits w64 (w + n)
-size_fits w n h k = omega arith
+    variable_is n r q g = g ∙ rw (number_is (width_of width) (drop at s) (omega (arith, length-drop at s)), ← q, e)
 
 -- ---- values
 
@@ -146,9 +109,9 @@ module _ (s : List ℕ) (at : ℕ) (h : at < length s) where
     unfolding body
     plain_short w l e q = q ∙ rw e (sym (known 1 (fixed (fixed_width code)) (λ z. omega arith) (plain_fixed code p l)))
 
-    pub plain_sized : (wide : Bool) → 160 ≤ code → wide ≡ false → r ≡ place_after (at + 1) (variable_end (width_of wide) (drop (at + 1) s)) → r ≡ place_after at (value_end 1 (drop at s))
+    pub plain_sized : 160 ≤ code → r ≡ place_after (at + 1) (variable_end 1 (drop (at + 1) s)) → r ≡ place_after at (value_end 1 (drop at s))
     unfolding body
-    plain_sized wide l e q = q ∙ rw e (sym (known 1 (variable 1) (λ z. omega arith) (plain_variable code p l)))
+    plain_sized l q = q ∙ sym (known 1 (variable 1) (λ z. omega arith) (plain_variable code p l))
 
   -- and a run of it so many bodies
   runs : (d count : ℕ) (k : Kind) → (d ≡ 0 → ⊥) → kind_of code ≡ accept k → place_after at (run d count (drop at s)) ≡ place_after (at + 1) (times count (body (run (d - 1)) k) (drop (at + 1) s))
@@ -171,9 +134,9 @@ module _ (s : List ℕ) (at : ℕ) (h : at < length s) where
     unfolding body
     plains_short w l e q = q ∙ rw e (ap (place_after (at + 1)) (sym (times_bytes (fixed_width code) count (drop (at + 1) s))) ∙ sym (runs 1 count (fixed (fixed_width code)) one (plain_fixed code p l)))
 
-    pub plains_sized : (wide : Bool) → 160 ≤ code → wide ≡ false → r ≡ place_after (at + 1) (times count (variable_end (width_of wide)) (drop (at + 1) s)) → r ≡ place_after at (run 1 count (drop at s))
+    pub plains_sized : 160 ≤ code → r ≡ place_after (at + 1) (times count (variable_end 1) (drop (at + 1) s)) → r ≡ place_after at (run 1 count (drop at s))
     unfolding body
-    plains_sized wide l e q = q ∙ rw e (sym (runs 1 count (variable 1) one (plain_variable code p l)))
+    plains_sized l q = q ∙ sym (runs 1 count (variable 1) one (plain_variable code p l))
 
     -- on every level alike
     pub plains_deep : (d : ℕ) → (d ≡ 0 → ⊥) → r ≡ place_after at (run 1 count (drop at s)) → r ≡ place_after at (run d count (drop at s))
@@ -196,14 +159,6 @@ module _ (s : List ℕ) (at : ℕ) (h : at < length s) where
   deep : (d : ℕ) → 0 < d → d ≡ 0 → ⊥
   deep d z e = omega arith
 
-  -- the codes of compounds with sizes of one byte
-  small : (shape : ℕ) (wide : Bool) → wide ≡ false → code / 2 ≡ 96 → shape ≡ code % 2 → kind_of code ≡ accept (compound (shape_of shape) (width_of wide))
-  small shape wide f e n = small_kind code e ∙ rw (n, f)
-
-  small_array : (shape : ℕ) (wide : Bool) → wide ≡ false → code ≡ 0xe0 → shape ≡ 2 → kind_of code ≡ accept (compound (shape_of shape) (width_of wide))
-  unfolding kind_of kind_in codes
-  small_array shape wide f e n = rw (e, n, f)
-
   module _ (c : ℕ) (i : c ≡ code) where
     pub not_described : (c ≡ 0 → ⊥) → code ≡ 0 → ⊥
     not_described n e = n (i ∙ e)
@@ -217,32 +172,36 @@ module _ (s : List ℕ) (at : ℕ) (h : at < length s) where
       unfolding body kind_of kind_in codes
       value_boolean e q = q ∙ sym (known d boolean (deep d z) (ap kind_of (sym i ∙ e)))
 
-      module _ (shape : ℕ) (wide : Bool) (f : wide ≡ false) (q : r ≡ place_after (at + 1) (compound_end (run (d - 1)) (shape_of shape) (width_of wide) (drop (at + 1) s))) where
-        pub value_small : c / 2 ≡ 96 → shape ≡ c % 2 → r ≡ place_after at (value_end d (drop at s))
-        unfolding body
-        value_small e n = q ∙ sym (known d (compound (shape_of shape) (width_of wide)) (deep d z) (small shape wide f (rw (← i) e) (rw (← i) n)))
+      compounded : (shape : Shape) → kind_of code ≡ accept (compound shape 1) → r ≡ place_after (at + 1) (compound_end (run (d - 1)) shape 1 (drop (at + 1) s)) → r ≡ place_after at (value_end d (drop at s))
+      unfolding body
+      compounded shape k q = q ∙ sym (known d (compound shape 1) (deep d z) k)
 
-        pub value_array : c ≡ 0xe0 → shape ≡ 2 → r ≡ place_after at (value_end d (drop at s))
-        unfolding body
-        value_array e n = q ∙ sym (known d (compound (shape_of shape) (width_of wide)) (deep d z) (small_array shape wide f (sym i ∙ e) n))
+      pub value_small : (shape : S.Shape) → kind_of c ≡ accept (compound (shape_of shape) 1) → r ≡ place_after (at + 1) (compound_end (run (d - 1)) (shape_of shape) 1 (drop (at + 1) s)) → r ≡ place_after at (value_end d (drop at s))
+      value_small shape k q = compounded (shape_of shape) (ap kind_of (sym i) ∙ k) q
+
+      pub value_array : c ≡ 0xe0 → r ≡ place_after (at + 1) (compound_end (run (d - 1)) array 1 (drop (at + 1) s)) → r ≡ place_after at (value_end d (drop at s))
+      unfolding kind_of kind_in codes
+      value_array e q = compounded array (ap kind_of (sym i ∙ e)) q
 
   -- ---- code_end
 
   module _ (d count r : ℕ) (z : 0 < d) where
-    module _ (shape : ℕ) (wide : Bool) (f : wide ≡ false) (q : r ≡ place_after (at + 1) (times count (compound_end (run (d - 1)) (shape_of shape) (width_of wide)) (drop (at + 1) s))) where
-      pub run_small : code / 2 ≡ 96 → shape ≡ code % 2 → r ≡ place_after at (run d count (drop at s))
-      unfolding body
-      run_small e n = q ∙ sym (runs d count (compound (shape_of shape) (width_of wide)) (deep d z) (small shape wide f e n))
+    compounds : (shape : Shape) → kind_of code ≡ accept (compound shape 1) → r ≡ place_after (at + 1) (times count (compound_end (run (d - 1)) shape 1) (drop (at + 1) s)) → r ≡ place_after at (run d count (drop at s))
+    unfolding body
+    compounds shape k q = q ∙ sym (runs d count (compound shape 1) (deep d z) k)
 
-      pub run_array : code ≡ 0xe0 → shape ≡ 2 → r ≡ place_after at (run d count (drop at s))
-      unfolding body
-      run_array e n = q ∙ sym (runs d count (compound (shape_of shape) (width_of wide)) (deep d z) (small_array shape wide f e n))
+    pub run_small : (shape : S.Shape) → kind_of code ≡ accept (compound (shape_of shape) 1) → r ≡ place_after (at + 1) (times count (compound_end (run (d - 1)) (shape_of shape) 1) (drop (at + 1) s)) → r ≡ place_after at (run d count (drop at s))
+    run_small shape k q = compounds (shape_of shape) k q
 
-    module _ (k : Code) (o : code_said k ≡ kind_of code) where
-      pub code_unknown : (code ≡ 0 → ⊥) → k ≡ Unknown → 0 ≡ place_after at (run d count (drop at s))
+    pub run_array : code ≡ 0xe0 → r ≡ place_after (at + 1) (times count (compound_end (run (d - 1)) array 1) (drop (at + 1) s)) → r ≡ place_after at (run d count (drop at s))
+    unfolding kind_of kind_in codes
+    run_array e q = compounds array (ap kind_of e) q
+
+    module _ (k : Option K.Kind) (o : code_said k ≡ kind_of code) where
+      pub code_unknown : (code ≡ 0 → ⊥) → k ≡ None → 0 ≡ place_after at (run d count (drop at s))
       code_unknown n u = place_none at 6 _ (sym (run_unknown d count (drop at s) (λ q. omega (arith, length-drop at s)) (λ q. n (sym (front s at) ∙ q)) (ap kind_of (front s at) ∙ sym o ∙ ap code_said u)))
 
-      module _ (kind : K.Kind) (u : k ≡ Known kind) where
+      module _ (kind : K.Kind) (u : k ≡ Some kind) where
         is : kind_of code ≡ accept (kind_said kind)
         is = sym o ∙ ap code_said u
 
@@ -257,22 +216,22 @@ module _ (s : List ℕ) (at : ℕ) (h : at < length s) where
         unfolding body
         bodies_boolean e q = bodies (q ∙ rw e)
 
-        pub bodies_variable : (wide : Bool) → kind ≡ Variable wide → r ≡ place_after (at + 1) (times count (variable_end (width_of wide)) (drop (at + 1) s)) → r ≡ place_after at (run d count (drop at s))
+        pub bodies_variable : (width : Width) → kind ≡ Variable width → r ≡ place_after (at + 1) (times count (variable_end (width_of width)) (drop (at + 1) s)) → r ≡ place_after at (run d count (drop at s))
         unfolding body
-        bodies_variable wide e q = bodies (q ∙ rw e)
+        bodies_variable width e q = bodies (q ∙ rw e)
 
-        module _ (shape : ℕ) (wide : Bool) (q : r ≡ place_after (at + 1) (times count (compound_end (run (d - 1)) (shape_of shape) (width_of wide)) (drop (at + 1) s))) where
-          pub bodies_list : kind ≡ Lists wide → shape ≡ 0 → r ≡ place_after at (run d count (drop at s))
+        module _ (width : Width) where
+          pub bodies_list : kind ≡ Lists width → r ≡ place_after (at + 1) (times count (compound_end (run (d - 1)) list (width_of width)) (drop (at + 1) s)) → r ≡ place_after at (run d count (drop at s))
           unfolding body
-          bodies_list e n = bodies (q ∙ rw (e, n))
+          bodies_list e q = bodies (q ∙ rw e)
 
-          pub bodies_map : kind ≡ Map wide → shape ≡ 1 → r ≡ place_after at (run d count (drop at s))
+          pub bodies_map : kind ≡ Map width → r ≡ place_after (at + 1) (times count (compound_end (run (d - 1)) map (width_of width)) (drop (at + 1) s)) → r ≡ place_after at (run d count (drop at s))
           unfolding body
-          bodies_map e n = bodies (q ∙ rw (e, n))
+          bodies_map e q = bodies (q ∙ rw e)
 
-          pub bodies_array : kind ≡ Array wide → shape ≡ 2 → r ≡ place_after at (run d count (drop at s))
+          pub bodies_array : kind ≡ Array width → r ≡ place_after (at + 1) (times count (compound_end (run (d - 1)) array (width_of width)) (drop (at + 1) s)) → r ≡ place_after at (run d count (drop at s))
           unfolding body
-          bodies_array e n = bodies (q ∙ rw (e, n))
+          bodies_array e q = bodies (q ∙ rw e)
 
   -- ---- run_end
 
@@ -313,14 +272,6 @@ value_shallow s at d z = rw z
 pub run_past : (s : List ℕ) (at d count : ℕ) → length s ≤ at → 0 ≡ place_after at (run d count (drop at s))
 run_past s at d count h = place_none at 6 _ (sym (run_none d count (drop at s) (ap length (drop_past s at h))))
 
--- a count of 32 bits times a width
-module _ (a b : ℕ) (h : a < 2 ^ 32) (k : b < 2 ^ 27) where
-  pub product_low : a * b < 2 ^ 63
-  product_low = let m : a * b ≤ a * 2 ^ 27 = mul-le-mul_left a (le_of_lt k) in omega arith
-
-  pub product_fits : Fits w64 (a * b)
-  product_fits = omega (arith, product_low)
-
 -- ---- described_end
 
 pub described_shallow : (s : List ℕ) (at d : ℕ) (g : Reader) → d ≡ 0 → 0 ≡ place_after at (followed_by (run d 1) g (drop at s))
@@ -343,49 +294,32 @@ module _ (s : List ℕ) (at d next : ℕ) (p : next ≡ place_after at (value_en
 
 -- ---- items_end
 
-pub items_array : (s : List ℕ) (at d shape count r : ℕ) → shape ≡ 2 → r ≡ place_after at (run d count (drop at s)) → r ≡ place_after at (items (run d) (shape_of shape) count (drop at s))
+pub items_array : (s : List ℕ) (at d count r : ℕ) (shape : S.Shape) → shape ≡ ArrayShape → r ≡ place_after at (run d count (drop at s)) → r ≡ place_after at (items (run d) (shape_of shape) count (drop at s))
 unfolding items
-items_array s at d shape count r e q = rw e q
+items_array s at d count r shape e q = rw e q
 
 -- a list's or a map's are values, one after the other
-pub items_each : (s : List ℕ) (at d shape count : ℕ) → (shape ≡ 2 → ⊥) → place_after at (items (run d) (shape_of shape) count (drop at s)) ≡ left (run d 1) s count 0 at
+pub items_each : (s : List ℕ) (at d count : ℕ) (shape : S.Shape) → (shape ≡ ArrayShape → ⊥) → place_after at (items (run d) (shape_of shape) count (drop at s)) ≡ left (run d 1) s count 0 at
 unfolding items
-items_each s at d shape count n = go (eqb shape 1) refl ∙ turn_first (run d 1) s count at
-  where
-    go : (b : Bool) → eqb shape 1 ≡ b → place_after at (items (run d) (shape_of shape) count (drop at s)) ≡ place_after at (times count (run d 1) (drop at s))
-    go true e = rw e
-    go false e = rw (e, ne_eqb shape 2 n)
+items_each s at d count ListShape n = turn_first (run d 1) s count at
+items_each s at d count MapShape n = turn_first (run d 1) s count at
+items_each s at d count ArrayShape n = absurd (n refl)
 
 pub as_run : (s : List ℕ) (end d next : ℕ) → next ≡ place_after end (value_end d (drop end s)) → next ≡ place_after end (run d 1 (drop end s))
 unfolding value_end
 as_run s end d next e = e
 
--- ---- paired
-
-module _ (shape count : ℕ) where
-  pub paired_map : shape ≡ 1 → eqb (count % 2) 0 ≡ paired_in (shape_of shape) count
-  unfolding paired_in
-  paired_map e = rw e
-
-  pub paired_other : (shape ≡ 1 → ⊥) → true ≡ paired_in (shape_of shape) count
-  unfolding paired_in
-  paired_other n = go (eqb shape 2) refl
-    where
-      go : (b : Bool) → eqb shape 2 ≡ b → true ≡ paired_in (shape_of shape) count
-      go true e = rw (ne_eqb shape 1 n, e)
-      go false e = rw (ne_eqb shape 1 n, e)
-
 -- ---- value_end
 
-module _ (s : List ℕ) (d end : ℕ) (v : Value) (e : end ≡ place_after 0 (value_end d (drop 0 s))) (q : ended v ≡ cond (eqb end 0) (refuse 6) (accept end)) where
-  pub value_is : ended v ≡ value_end d s
+module _ (s : List ℕ) (d end : ℕ) (v : Option ℕ) (e : end ≡ place_after 0 (value_end d (drop 0 s))) (q : well_formed v ≡ cond (eqb end 0) (refuse 6) (accept end)) where
+  pub value_is : well_formed v ≡ value_end d s
   value_is = q ∙ go (eqb end 0) refl
     where
       go : (b : Bool) → eqb end 0 ≡ b → cond b (refuse 6) (accept end) ≡ value_end d s
       go true t = sym (place_off d 0 s end e (eqb-true end 0 t))
       go false t = rw (sub-zero end) at (sym (place_on d 0 s end e (eqb-false end 0 t)))
 
-pub value_plain : (s : List ℕ) (d end : ℕ) (v : Value) (b : Bool) → (length s ≡ 0 → ⊥) → b ≡ is_plain (get_or s 0 0) → b ≡ true → (d ≡ 0 → ⊥) → end ≡ place_after 0 (value_end 1 (drop 0 s)) → ended v ≡ cond (eqb end 0) (refuse 6) (accept end) → ended v ≡ value_end d s
+pub value_plain : (s : List ℕ) (d end : ℕ) (v : Option ℕ) (b : Bool) → (length s ≡ 0 → ⊥) → b ≡ is_plain (get_or s 0 0) → b ≡ true → (d ≡ 0 → ⊥) → end ≡ place_after 0 (value_end 1 (drop 0 s)) → well_formed v ≡ cond (eqb end 0) (refuse 6) (accept end) → well_formed v ≡ value_end d s
 value_plain s d end v b h p t z e q = value_is s d end v (plain_deep s 0 (omega (arith, h)) (sym p ∙ t) end d z e) q
 
 pub value_empty : (d : ℕ) (s : List ℕ) → length s ≡ 0 → refuse 6 ≡ value_end d s

@@ -3,7 +3,7 @@
 use mathlib.Core.Path.{◌≡◌, refl, sym}
 use mathlib.Core.Bool.{Bool, true, false, cond}
 use mathlib.Core.List.{List, [], ◌∷◌, map}
-use mathlib.Core.Option.{Option, some}
+use Rattle.std.specs.Prelude.{Option, Some}
 use Prim.Native.Nat.{ℕ}
 use native.Mathlib.Omega.{arith}
 use lib.Dec.{eqb}
@@ -45,4 +45,4 @@ width_right c k e = found codes rows_agree c k e
 -- a byte for the boolean
 pub boolean_width : fixed_width 0x56 ≡ 1
 unfolding codes kind_in kind_of width_at width_in
-boolean_width = let q : some (fixed_width 0x56) ≡ some 1 = sym (width_right 0x56 boolean refl) in cc
+boolean_width = let q : Some (fixed_width 0x56) ≡ Some 1 = sym (width_right 0x56 boolean refl) in cc

@@ -8,3 +8,8 @@ null = 0x40 ∷ []
 
 abbrev pub is_null : List ℕ → Bool
 is_null f = starts_with null f
+
+-- a field that is missing is null
+abbrev pub or_null : List ℕ → List ℕ
+or_null [] = null
+or_null (b ∷ f) = b ∷ f

@@ -1,26 +1,46 @@
 // The format codes of Part 1: which there are, of which kind each is, and how wide the fixed ones are.
-ghost use Rattle.std.specs.Prelude.{◌≡◌, ◌^◌, ◌<◌};
+ghost use Rattle.std.specs.Prelude.{◌≡◌, ◌^◌, ◌<◌, ◌≤◌};
 ghost use Rattle.values.specs.Value.{kind_of};
 ghost use Rattle.values.specs.Widths.{fixed_width};
 ghost use Rattle.values.specs.Plain.{is_known, is_plain, BitsOf};
-ghost use Rattle.values.specs.Answers.{code_said};
+ghost use Rattle.values.specs.Answers.{width_of, code_said};
 
-// What stands after a format code. A fixed one has the code itself, from which its width follows. The bool says whether sizes and counts have four
-// bytes, and not one.
+// The shapes of a compound.
+#[derive(Clone, Copy)]
+pub(crate) enum Shape {
+    List,
+    Map,
+    Array,
+}
+
+// How many bytes a size or a count has.
+#[derive(Clone, Copy)]
+pub(crate) enum Width {
+    One,
+    Four,
+}
+
+impl Width {
+    pub(crate) fn bytes(self) -> usize
+        ensures { (result ≡ width_of self) × (result ≤ 4) }
+    {
+        match self {
+            Width::One => 1,
+            Width::Four => 4,
+        }
+    }
+}
+
+// What stands after a format code. A fixed one has the code itself, from which its width follows.
+// (Each shape is a kind, and so has a loop of its own: with one kind and the shape in it, lists take more instructions than tests/linear.txt allows.)
 #[derive(Clone, Copy)]
 pub(crate) enum Kind {
     Fixed(u8),
     Boolean,
-    Variable(bool),
-    List(bool),
-    Map(bool),
-    Array(bool),
-}
-
-#[derive(Clone, Copy)]
-pub(crate) enum Code {
-    Known(Kind),
-    Unknown,
+    Variable(Width),
+    List(Width),
+    Map(Width),
+    Array(Width),
 }
 
 // The kinds of codes, as `KINDS` has them. Sizes and counts have four bytes in those of 32 bits, and one byte in those of 8.
@@ -74,23 +94,23 @@ pub(crate) fn fixed_width(c: u8) -> u32
     (1 << (c >> 4)) >> 5
 }
 
-// The kind of a format code.
-pub(crate) fn code_of(c: u8) -> Code
+// The kind of a format code; there is none where there is no such code.
+pub(crate) fn code_of(c: u8) -> Option<Kind>
     ensures { code_said result ≡ kind_of c }
 {
     let word = KINDS[(c >> 4) as usize];
     match (word >> (c % 16 * 4)) % 16 {
-        FIXED => Code::Known(Kind::Fixed(c)),
-        BOOLEAN => Code::Known(Kind::Boolean),
-        VARIABLE_8 => Code::Known(Kind::Variable(false)),
-        VARIABLE_32 => Code::Known(Kind::Variable(true)),
-        LIST_8 => Code::Known(Kind::List(false)),
-        LIST_32 => Code::Known(Kind::List(true)),
-        MAP_8 => Code::Known(Kind::Map(false)),
-        MAP_32 => Code::Known(Kind::Map(true)),
-        ARRAY_8 => Code::Known(Kind::Array(false)),
-        ARRAY_32 => Code::Known(Kind::Array(true)),
-        _ => Code::Unknown,
+        FIXED => Some(Kind::Fixed(c)),
+        BOOLEAN => Some(Kind::Boolean),
+        VARIABLE_8 => Some(Kind::Variable(Width::One)),
+        VARIABLE_32 => Some(Kind::Variable(Width::Four)),
+        LIST_8 => Some(Kind::List(Width::One)),
+        LIST_32 => Some(Kind::List(Width::Four)),
+        MAP_8 => Some(Kind::Map(Width::One)),
+        MAP_32 => Some(Kind::Map(Width::Four)),
+        ARRAY_8 => Some(Kind::Array(Width::One)),
+        ARRAY_32 => Some(Kind::Array(Width::Four)),
+        _ => None,
     }
 }
 

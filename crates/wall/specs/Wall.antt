@@ -2,8 +2,7 @@
 -- they write into the lent output.
 -- proofs/Wall.antt computes them.
 -- Assumes nothing: these are definitions.
-use Rattle.std.specs.Prelude.{◌≡◌, List, [], ◌∷◌, ◌++◌, ℕ, replicate, drop}
-use Rattle.std.proofs.Math.Option.{none}
+use Rattle.std.specs.Prelude.{◌≡◌, List, [], ◌∷◌, ◌++◌, ℕ, replicate, drop, None}
 use Rattle.octets.specs.Verdict.{Verdict, refuse, accept}
 use Rattle.frame_encoder.specs.Frames.{Settings}
 use Rattle.connection_state.specs.States.{State, HeaderSent, HeaderExchange, Opened, End}
@@ -13,7 +12,7 @@ use Rattle.connection_model.specs.Connection.{dialler, Connection, fresh, Call, 
 
 -- container p1, max-frame-size 4096, channel-max 7, no idle-time-out
 abbrev pub p1 : Settings
-p1 = record { container_id = 0x70 ∷ 0x31 ∷ []; max_frame_size = 4096; channel_max = 7; idle_time_out = none }
+p1 = record { container_id = 0x70 ∷ 0x31 ∷ []; max_frame_size = 4096; channel_max = 7; idle_time_out = None }
 
 -- the lent output before a call
 unfoldable pub out : List ℕ
@@ -108,5 +107,5 @@ Wall =
     × (drawn four_taken (receive_frame begin 0 ∷ deallocate 2 ∷ receive_frame attach 0 ∷ receive_frame begin 0 ∷ [])
     ≡ ((accept (forward 20 17 12 8 12) ∷ accept (freed 12) ∷ refuse 24 ∷ refuse 24 ∷ []) leaving Opened))
     -- Close without error: 0000000C 02000000 005318 45
-    × (seen dialler p1 both_open (send_close_to none out)
+    × (seen dialler p1 both_open (send_close_to None out)
     ≡ writing 12 (0x00 ∷ 0x00 ∷ 0x00 ∷ 0x0C ∷ 0x02 ∷ 0x00 ∷ 0x00 ∷ 0x00 ∷ 0x00 ∷ 0x53 ∷ 0x18 ∷ 0x45 ∷ []))

@@ -3,16 +3,21 @@
 use mathlib.Core.Path.{◌≡◌, refl, sym, ap, ◌∙◌}
 use mathlib.Core.Bool.{Bool, true, false, not, cond}
 use mathlib.Core.List.{List, [], ◌∷◌}
-use Prim.Native.Nat.{ℕ, suc, ◌+◌, ◌*◌, ◌-◌, ◌^◌, ◌<◌, ◌≤◌}
-use native.Mathlib.Nat.{add-zero, zero-add}
+use Prim.Native.Nat.{ℕ, zero, suc, ◌+◌, ◌*◌, ◌-◌, ◌/◌, ◌^◌, ◌<◌, ◌≤◌, min}
+use native.Mathlib.Nat.{zero-add}
 use native.Mathlib.Numerals.{add-one}
 use native.Mathlib.Omega.{arith}
-use lib.ListN.{length, take, drop, get_or, set, drop_of_length-le, length-take, length-drop, length-set}
-use lib.Seq.{drop-cons, drop-drop, take_all, take-nil, get_or-take, paste, paste-zero}
-use lib.Dec.{eqb}
-use borrow.Author.Tests.{lt-ltb, le-ltb, eq-eqb, ne_eqb}
-use Rattle.octets.proofs.Steps.{copy_more, copy_done}
-use Rattle.words.specs.Words.{part_in, until, place_from, is_byte, other_than, blank, unblanked, word_in, digit_of, decimal_from, byte_of, hex_in, hex_for, Spelled}
+use lib.ListN.{length, take, drop, get_or, set, drop_of_length-le, length-take, length-drop}
+use lib.Seq.{drop-cons, drop-drop, take_all, take-nil, take-length, get_or-take, paste, paste-suc}
+use borrow.Author.Tests.{lt-ltb, le-ltb}
+use Rattle.octets.proofs.Laws.{put_fits}
+use Rattle.std.specs.Prelude.{Option, None, Some}
+use Rattle.std.specs.Option.{MatchOption, unwrap_or}
+use Rattle.std.specs.List.{take_while, position, position_or_len, AllWithin, HoldsAt}
+use Rattle.std.proofs.lemmas.Iterator.{index_from_first}
+use Rattle.std.proofs.lemmas.List.Sums.{take_while-cons}
+use Rattle.std.proofs.lemmas.List.Quantifiers.{position-Some}
+use Rattle.words.specs.Words.{part_in, until, place_from, is_byte, other_than, blank, unblanked, word_in, digits, digit_of, is_below, worth, decimal_from, byte_of, hex_in, hex_for, Spelled}
 
 pub until_le : (t : ℕ → Bool) (s : List ℕ) → until t s ≤ length s
 unfolding until
@@ -23,25 +28,15 @@ until_le t (c ∷ s) = go (t c) (until_le t s)
     go true h = omega arith
     go false h = omega arith
 
--- a loop that has come to i; X is what it has to answer
-module _ (t : ℕ → Bool) (s : List ℕ) (X i : ℕ) (inv : X ≡ place_from t i s) where
-  pub place_here : i < length s → t (get_or s i 0) ≡ true → i ≡ X
-  unfolding until
-  place_here h e = sym (inv ∙ rw (drop-cons s i 0 h, e) (add-zero i))
-
-  pub place_next : i < length s → t (get_or s i 0) ≡ false → X ≡ place_from t (i + 1) s
-  unfolding until
-  place_next h e = inv ∙ rw (drop-cons s i 0 h, e, add-one i) (omega arith)
-
-  pub place_end : length s ≤ i → i ≡ X
-  unfolding until
-  place_end h = sym (inv ∙ rw (drop_of_length-le s h) (add-zero i))
-
-pub not_eq : (a b : ℕ) → a ≡ b → not (eqb a b) ≡ false
-not_eq a b e = rw (eq-eqb a b e)
-
-pub not_ne : (a b : ℕ) → (a ≡ b → ⊥) → not (eqb a b) ≡ true
-not_ne a b e = rw (ne_eqb a b e)
+-- as many stand before the first that passes the test as from the front on do not
+pub until_while : (t p : ℕ → Bool) (s : List ℕ) → ((c : ℕ) → p c ≡ not (t c)) → length (take_while p s) ≡ until t s
+unfolding until
+until_while t p [] e = refl
+until_while t p (c ∷ s) e = rw (take_while-cons p c s, e c) (go (t c) (until_while t p s e))
+  where
+    go : (b : Bool) → length (take_while p s) ≡ until t s → length (cond (not b) (c ∷ take_while p s) []) ≡ cond b 0 (suc (until t s))
+    go true h = refl
+    go false h = ap suc h
 
 -- ---- parts
 
@@ -91,84 +86,83 @@ module _ (s : List ℕ) (at from next : ℕ) (p : from ≡ place_from (other_tha
 
 -- ---- numbers
 
+-- what `position` finds in a list
+pub first_told : (p : ℕ → Bool) (xs : List ℕ) (r : Option ℕ)
+    → MatchOption r (AllWithin (λ x. p x ≡ false) xs 0 (length xs)) (λ i. (i < length xs) × HoldsAt (λ x. p x ≡ true) xs i × AllWithin (λ x. p x ≡ false) xs 0 i)
+    → r ≡ position p xs
+first_told p xs r m = go r m (index_from_first (position_or_len p) (λ x. p x ≡ true) (λ x. p x ≡ false) refl (λ x ys h. rw h) (λ x ys h. rw h (omega arith)) xs r m)
+  where
+    go : (r : Option ℕ)
+        → MatchOption r (AllWithin (λ x. p x ≡ false) xs 0 (length xs)) (λ i. (i < length xs) × HoldsAt (λ x. p x ≡ true) xs i × AllWithin (λ x. p x ≡ false) xs 0 i)
+        → position_or_len p xs ≡ unwrap_or r (length xs) → r ≡ position p xs
+    go None m e = rw (e, le-ltb (length xs) (length xs) (omega arith))
+    go (Some i) m e = rw (e, lt-ltb i (length xs) m.0)
+
+digit_low : (b d : ℕ) → digit_of b ≡ Some d → d < 16
+unfolding digit_of
+digit_low b d e = (position-Some (is_byte b) digits d 0 e).0
+
+pub worth_low : (b d : ℕ) (o : Option ℕ) → o ≡ digit_of b → d ≡ unwrap_or o 0 → (d < 16) × (d ≡ worth (digit_of b))
+worth_low b d None e q = (omega arith, q ∙ rw (← e))
+worth_low b d (Some x) e q = let l : x < 16 = digit_low b x (sym e) in (omega arith, q ∙ rw (← e))
+
 -- a loop that has read i digits; X is the number that it reads
 module _ (s : List ℕ) (X n i : ℕ) (inv : X ≡ decimal_from n (drop i s)) where
   pub decimal_end : length s ≤ i → n ≡ X
   unfolding decimal_from
   decimal_end h = sym (inv ∙ rw (drop_of_length-le s h))
 
-  module _ (d : ℕ) (q : d ≡ digit_of (get_or s i 0)) (h : i < length s) where
-    pub decimal_none : 10 ≤ d → n ≡ X
+  module _ (o : Option ℕ) (q : o ≡ digit_of (get_or s i 0)) (h : i < length s) where
+    pub decimal_none : is_below 10 o ≡ false → n ≡ X
     unfolding decimal_from
-    decimal_none l = sym (inv ∙ rw (drop-cons s i 0 h, ← q, le-ltb d 10 l))
+    decimal_none l = sym (inv ∙ rw (drop-cons s i 0 h, ← q, l))
 
-    pub decimal_full : d < 10 → 10 ^ 18 ≤ n → n ≡ X
-    unfolding decimal_from
-    decimal_full l m = sym (inv ∙ rw (drop-cons s i 0 h, ← q, lt-ltb d 10 l, le-ltb n (10 ^ 18) m))
+    module _ (d : ℕ) (e : o ≡ Some d) (low : d < 10) where
+      pub decimal_full : 10 ^ 18 ≤ n → n ≡ X
+      unfolding decimal_from
+      decimal_full m = sym (inv ∙ rw (drop-cons s i 0 h, ← q, e, lt-ltb d 10 low, le-ltb n (10 ^ 18) m))
 
-    pub decimal_more : d < 10 → n < 10 ^ 18 → X ≡ decimal_from (n * 10 + d) (drop (i + 1) s)
-    unfolding decimal_from
-    decimal_more l m = inv ∙ rw (drop-cons s i 0 h, ← q, lt-ltb d 10 l, lt-ltb n (10 ^ 18) m, add-one i)
+      pub decimal_more : n < 10 ^ 18 → X ≡ decimal_from (n * 10 + d) (drop (i + 1) s)
+      unfolding decimal_from
+      decimal_more m = inv ∙ rw (drop-cons s i 0 h, ← q, e, lt-ltb d 10 low, lt-ltb n (10 ^ 18) m, add-one i)
 
 -- ---- bytes
 
-hex_short : (w : List ℕ) → length w ≤ 1 → hex_in w ≡ []
+hex_length : (w : List ℕ) → length (hex_in w) ≡ length w / 2
 unfolding hex_in
-hex_short [] h = refl
-hex_short (a ∷ []) h = refl
-hex_short (a ∷ b ∷ w) h = absurd (omega arith)
+hex_length [] = refl
+hex_length (a ∷ []) = refl
+hex_length (a ∷ b ∷ w) = let h : length (hex_in w) ≡ length w / 2 = hex_length w in omega arith
 
-hex_pair : (w : List ℕ) (at : ℕ) → 1 < length w - at → hex_in (drop at w) ≡ byte_of (get_or w at 0) (get_or w (at + 1) 0) ∷ hex_in (drop (at + 2) w)
+hex_at : (w : List ℕ) (i : ℕ) → i < length w / 2 → get_or (hex_in w) i 0 ≡ byte_of (get_or w (2 * i) 0) (get_or w (2 * i + 1) 0)
 unfolding hex_in
-hex_pair w at h =
-    let a : at < length w = omega arith in
-    let b : suc at < length w = omega arith in
-    let k : at + 2 ≡ suc (suc at) = omega arith in
-    rw (drop-cons w at 0 a, drop-cons w (suc at) 0 b, k, add-one at)
+hex_at [] i h = absurd (omega arith)
+hex_at (a ∷ []) i h = absurd (omega arith)
+hex_at (a ∷ b ∷ w) zero h = refl
+hex_at (a ∷ b ∷ w) (suc i) h =
+    let p : 2 * suc i ≡ suc (suc (2 * i)) = omega arith in
+    let q : suc (suc (2 * i)) + 1 ≡ suc (suc (2 * i + 1)) = omega arith in
+    rw (p, q) (hex_at w i (omega arith))
 
--- a loop that has laid n bytes, the digits before `at`, into an output where d stood
-pub record Laying (w d out : List ℕ) (n at : ℕ) : Type 0 where
-  pub within : at ≤ length w
-  pub same : length out ≡ length d
-  pub few : n ≤ length d
-  pub read : n ≤ length (hex_in w)
-  pub rest : drop n (hex_in w) ≡ hex_in (drop at w)
-  pub laid : out ≡ paste d 0 (hex_for w d) n
-
-pub laying_none : (w d : List ℕ) → Laying w d d 0 0
-laying_none w d = record { within = omega arith; same = refl; few = omega arith; read = omega arith; rest = refl; laid = paste-zero d 0 (hex_for w d) }
-
-module _ (w d out : List ℕ) (n at : ℕ) (l : Laying w d out n at) where
-  pub laying_more : (b : ℕ) → 1 < length w - at → n < length out → b ≡ byte_of (get_or w at 0) (get_or w (at + 1) 0) → Laying w d (set out n b) (n + 1) (at + 2)
+-- the bytes for which there is room, of which i are laid into an output where d stood
+module _ (w d : List ℕ) (n : ℕ) (e : n ≡ min (length w / 2) (length d)) where
+  hex_count : n ≡ length (hex_for w d)
   unfolding hex_for
-  laying_more b h k e =
-      let H : List ℕ = hex_in w in
-      let F : List ℕ = take (length d) H in
-      let c : drop n H ≡ b ∷ hex_in (drop (at + 2) w) = l.rest ∙ hex_pair w at h ∙ ap (λ (x : ℕ). x ∷ hex_in (drop (at + 2) w)) (sym e) in
-      let r : n < length H = omega (arith, length-drop n H, ap length c) in
-      let f : n < length d = omega (arith, l.same) in
-      let q : get_or H n 0 ∷ drop (suc n) H ≡ b ∷ hex_in (drop (at + 2) w) = sym (drop-cons H n 0 r) ∙ c in
-      let g : get_or F n 0 ≡ b = get_or-take (length d) H n 0 f ∙ cc in
-      let m : set out (0 + n) (get_or F n 0) ≡ paste d 0 F (n + 1) = copy_more out d F 0 n l.laid (omega arith) (omega (arith, length-take (length d) H)) (omega (arith, length-take (length d) H)) in
-      record {
-        within = omega arith;
-        same = simp length-set l.same;
-        few = omega arith;
-        read = omega arith;
-        rest = rw (add-one n) cc;
-        laid = rw (zero-add n, g) at m;
-      }
+  hex_count = omega (arith, length-take (length d) (hex_in w), hex_length w)
 
-  laid_all : n ≡ length (hex_for w d) → Spelled w n d out
+  pub laying_more : (out : List ℕ) (i b : ℕ) → out ≡ paste d 0 (hex_for w d) i → i < n → b ≡ byte_of (get_or w (2 * i) 0) (get_or w (2 * i + 1) 0) → set out i b ≡ paste d 0 (hex_for w d) (i + 1)
   unfolding hex_for
-  laid_all e = record { count = e; output = copy_done out d (hex_for w d) 0 n l.laid (omega arith) (omega (arith, length-take (length d) (hex_in w))) (omega arith) (omega arith) }
+  laying_more out i b inv h q =
+      let F : List ℕ = hex_for w d in
+      let v : get_or F i 0 ≡ b = get_or-take (length d) (hex_in w) i 0 (omega arith) ∙ hex_at w i (omega arith) ∙ sym q in
+      let m : set out (0 + i) (get_or F i 0) ≡ paste d 0 F (suc i) = rw inv (paste-suc d 0 F i 0 (omega arith) (omega (arith, hex_count))) in
+      rw add-one (rw (zero-add i, v) at m)
 
-  pub laying_full : length out ≤ n → Spelled w n d out
-  unfolding hex_for
-  laying_full h = laid_all (omega (arith, l.same, l.few, l.read, length-take (length d) (hex_in w)))
+  pub laying_done : (out : List ℕ) (i : ℕ) → out ≡ paste d 0 (hex_for w d) i → i ≤ n → n ≤ i → Spelled w n d out
+  laying_done out i inv l h =
+      let q : i ≡ length (hex_for w d) = omega (arith, hex_count) in
+      record { count = hex_count; output = inv ∙ rw (q, take-length, put_fits d 0 (hex_for w d) (omega (arith, hex_count))) }
 
-  pub laying_done : length w - at ≤ 1 → Spelled w n d out
-  unfolding hex_for
-  laying_done h =
-      let e : drop n (hex_in w) ≡ [] = l.rest ∙ hex_short (drop at w) (simp length-drop h) in
-      laid_all (omega (arith, l.few, l.read, length-drop n (hex_in w), ap length e, length-take (length d) (hex_in w)))
+pub not_not : (b : Bool) → not (not b) ≡ b
+not_not true = refl
+not_not false = refl

@@ -1,6 +1,6 @@
 -- The words of a line, and what they say: a number in decimal digits, bytes in hexadecimal ones.
 -- Assumes nothing: these are definitions.
-use Rattle.std.specs.Prelude.{ℕ, zero, suc, ◌+◌, ◌*◌, ◌-◌, ◌%◌, ◌^◌, ◌≡◌, Bool, cond, not, ◌&&◌, List, [], ◌∷◌, length, take, drop, ltb, eqb}
+use Rattle.std.specs.Prelude.{ℕ, zero, suc, ◌+◌, ◌*◌, ◌-◌, ◌^◌, ◌≡◌, Bool, false, cond, not, ◌&&◌, List, [], ◌∷◌, length, take, drop, position, Option, None, Some, ltb, eqb}
 use Rattle.octets.specs.Octets.{put}
 
 -- ---- places
@@ -44,14 +44,24 @@ word_in (suc n) s = word_in n (drop (until (is_byte blank) (unblanked s)) (unbla
 abbrev pub digits : List ℕ
 digits = 0x30 ∷ 0x31 ∷ 0x32 ∷ 0x33 ∷ 0x34 ∷ 0x35 ∷ 0x36 ∷ 0x37 ∷ 0x38 ∷ 0x39 ∷ 0x41 ∷ 0x42 ∷ 0x43 ∷ 0x44 ∷ 0x45 ∷ 0x46 ∷ []
 
--- a digit stands for its place among these; 16 where it is none of them
-unfoldable pub digit_of : ℕ → ℕ
-digit_of b = until (is_byte b) digits
+-- a digit stands for its place among these
+unfoldable pub digit_of : ℕ → Option ℕ
+digit_of b = position (is_byte b) digits
+
+-- a digit that stands for a number below k
+abbrev pub is_below : ℕ → Option ℕ → Bool
+is_below k None = false
+is_below k (Some d) = ltb d k
+
+-- what a digit stands for; 0 where it is none
+abbrev pub worth : Option ℕ → ℕ
+worth None = 0
+worth (Some d) = d
 
 -- a number after which the decimal digits at the front of s are read, until it has nineteen
 unfoldable pub decimal_from : ℕ → List ℕ → ℕ
 decimal_from n [] = n
-decimal_from n (b ∷ s) = cond (ltb (digit_of b) 10 && ltb n (10 ^ 18)) (decimal_from (n * 10 + digit_of b) s) n
+decimal_from n (b ∷ s) = cond (is_below 10 (digit_of b) && ltb n (10 ^ 18)) (decimal_from (n * 10 + worth (digit_of b)) s) n
 
 -- the number that s starts with; 0 where it starts with none
 unfoldable pub decimal_in : List ℕ → ℕ
@@ -59,7 +69,7 @@ decimal_in s = decimal_from 0 s
 
 -- the byte that two digits say; what is no digit counts as 0
 abbrev pub byte_of : ℕ → ℕ → ℕ
-byte_of a b = digit_of a % 16 * 16 + digit_of b % 16
+byte_of a b = worth (digit_of a) * 16 + worth (digit_of b)
 
 -- the bytes that the pairs of digits say
 unfoldable pub hex_in : List ℕ → List ℕ

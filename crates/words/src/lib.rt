@@ -34,67 +34,52 @@ pub fn part(s: &[u8], from: usize, end: usize) -> &[u8]
 pub fn find(s: &[u8], from: usize, b: u8) -> usize
     ensures { result ≡ place_from (is_byte b) from s.now }
 {
-    let mut i = from;
-    while i < s.len() {
-        if s[i] == b {
-            return i;
-        }
-        i += 1;
-    }
-    i
+    from + s.iter().skip(from).take_while(|c| **c != b).count()
 }
 
 // The first place from `from` on where s has a byte other than b; the end where there is none.
 pub fn skip(s: &[u8], from: usize, b: u8) -> usize
     ensures { result ≡ place_from (other_than b) from s.now }
 {
-    let mut i = from;
-    while i < s.len() {
-        if s[i] != b {
-            return i;
-        }
-        i += 1;
-    }
-    i
+    from + s.iter().skip(from).take_while(|c| **c == b).count()
 }
 
 // The n-th word of a line, counted from 0; nothing where the line has fewer.
 pub fn word(line: &[u8], n: usize) -> &[u8]
     ensures { result.now ≡ word_in n line.now }
 {
-    let mut at: usize = 0;
-    let mut i: usize = 0;
-    while i < n {
+    let mut at = 0;
+    for _passed in 0..n {
         at = find(line, skip(line, at, b' '), b' ');
-        i += 1;
     }
     let from = skip(line, at, b' ');
     part(line, from, find(line, from, b' '))
 }
 
-// What a digit stands for, a hexadecimal one too; 16 where it is none.
-pub fn digit(b: u8) -> u8
+// What a digit stands for, a hexadecimal one too.
+pub fn digit(b: u8) -> Option<u8>
     ensures { result ≡ digit_of b }
 {
-    find(b"0123456789ABCDEF", 0, b) as u8
+    let place = b"0123456789ABCDEF".iter().position(|d| *d == b)?;
+    Some(place as u8)
 }
 
 // The decimal number that s starts with; of its digits nineteen count.
 pub fn decimal(s: &[u8]) -> u64
     ensures { result ≡ decimal_in s.now }
 {
-    let mut n: u64 = 0;
-    let mut i: usize = 0;
-    while i < s.len() {
-        let d = digit(s[i]);
+    let mut n = 0;
+    for b in s {
+        let Some(d) = digit(*b) else {
+            return n;
+        };
         if 10 <= d {
             return n;
         }
         if 1_000_000_000_000_000_000 <= n {
             return n;
         }
-        n = n * 10 + (d as u64);
-        i += 1;
+        n = n * 10 + u64::from(d);
     }
     n
 }
@@ -103,22 +88,16 @@ pub fn decimal(s: &[u8]) -> u64
 fn byte(high: u8, low: u8) -> u8
     ensures { result ≡ byte_of high low }
 {
-    digit(high) % 16 * 16 + digit(low) % 16
+    digit(high).unwrap_or(0) * 16 + digit(low).unwrap_or(0)
 }
 
 // Lays the bytes that a word says, two digits each, into the front of `out`, and answers how many they are. Those that find no room are left out.
 pub fn hex(w: &[u8], out: &mut [u8]) -> usize
     ensures { Spelled w.now result out.old out.new }
 {
-    let mut n: usize = 0;
-    let mut at: usize = 0;
-    while 1 < w.len() - at {
-        if out.len() <= n {
-            return n;
-        }
-        out[n] = byte(w[at], w[at + 1]);
-        n += 1;
-        at += 2;
+    let n = (w.len() / 2).min(out.len());
+    for i in 0..n {
+        out[i] = byte(w[2 * i], w[2 * i + 1]);
     }
     n
 }

@@ -1,12 +1,10 @@
 -- `read_counts`: a flag and four numbers, judged by the channels.
 -- Assumes nothing.
-use mathlib.Core.Path.{refl}
-use mathlib.Core.Bool.{false}
 use Rattle.engine_bytes.proofs.Reading.{counts_not, counts_read}
 use Rattle.engine_bytes.proofs.read_counts.Goals as goal
 
 pub returns-then-agreed-gt1 : goal.returns-then-agreed-gt1
-returns-then-agreed-gt1 c = counts_not _ c.requires (record { fine = false; channels = c.new.result }) refl c.if-agreed-gt1.true
+returns-then-agreed-gt1 c = counts_not _ c.requires c.if-agreed-gt1.true
 
 pub returns : goal.returns
 returns c =

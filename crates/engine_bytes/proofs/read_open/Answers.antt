@@ -13,4 +13,4 @@ returns-then-n-gt-ID_MAX c =
 
 pub returns : goal.returns
 returns c =
-    open_read_lem _ c.requires c.if-there-gt1.false c.two_at-n.result c.two_at-n.ensures c.new.result _ c.four_at-2.result c.two_at.result c.four_at.result c.idle_of-idle.result refl c.new.ensures c.four_at-2.ensures c.two_at.ensures c.idle_of-idle.ensures c.four_at.ensures
+    open_read_lem _ c.requires c.if-there-gt1.false c.two_at-n.result c.two_at-n.ensures c.new.result _ c.four_at.result c.two_at.result c.four_at-2.result c.idle_of.result refl c.new.ensures c.four_at.ensures c.two_at.ensures c.idle_of.ensures c.four_at-2.ensures

@@ -12,12 +12,6 @@ enum_known-performative c = search steps
 pub returns-in_default : goal.returns-in_default
 returns-in_default c = search steps
 
-pub enum_known-remote : goal.enum_known-remote
-enum_known-remote c = search steps
-
-pub enum_told-1 : goal.enum_told-1
-enum_told-1 c = search steps
-
 pub returns-in_default-remote : goal.returns-in_default-remote
 returns-in_default-remote c = search steps
 

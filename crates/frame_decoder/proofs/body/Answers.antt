@@ -6,18 +6,6 @@ use Rattle.frame_decoder.proofs.body.Goals as goal
 
 ruleset steps = (part_from, part_end, body_none, body_some, rules)
 
-pub read_header-requires : goal.read_header-requires
-read_header-requires c = search steps
-
-pub enum_known-size : goal.enum_known-size
-enum_known-size c = search steps
-
-pub enum_told-1 : goal.enum_told-1
-enum_told-1 c = search steps
-
-pub slice_bounds-result-end : goal.slice_bounds-result-end
-slice_bounds-result-end c = search steps
-
 pub returns-in_default : goal.returns-in_default
 returns-in_default c = search steps
 

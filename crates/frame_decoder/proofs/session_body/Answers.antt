@@ -10,12 +10,6 @@ ruleset steps = (session_malformed, session_not, session_above, session_body_lem
 pub read-requires : goal.read-requires
 read-requires c = search steps
 
-pub enum_known-performative : goal.enum_known-performative
-enum_known-performative c = search steps
-
-pub enum_told-1 : goal.enum_told-1
-enum_told-1 c = search steps
-
 pub returns-in_default : goal.returns-in_default
 returns-in_default c = search steps
 
@@ -33,6 +27,6 @@ returns-then-not-begins_within c = search steps
 
 pub returns : goal.returns
 returns c =
-    session_body_lem _ _ _ _ _ c.read.ensures _ _ c.in-Is.is
+    session_body_lem _ _ _ _ _ _ c.in-Some.ensures
     _ c.may_send.ensures (not-false _ c.if-not-may_send.false-raw)
     _ c.begins_within.ensures (not-false _ c.if-not-begins_within.false-raw)

@@ -18,29 +18,23 @@ slice_bounds-session_frame-start c = search steps
 pub slice_bounds-session_frame-end : goal.slice_bounds-session_frame-end
 slice_bounds-session_frame-end c = search steps
 
-pub session_frame-frame-requires : goal.session_frame-frame-requires
-session_frame-frame-requires c = search steps
-
 pub enum_known-frame : goal.enum_known-frame
 enum_known-frame c = search steps
 
-pub refusal-requires : goal.refusal-requires
-refusal-requires c = search steps
-
-pub returns-in_default : goal.returns-in_default
-returns-in_default c = search steps
-
 pub overflow_add-at : goal.overflow_add-at
-overflow_add-at c = search steps
+overflow_add-at c = at_fits _ _ _ _ c.loop-at.invariant c.loop-at-test.true _ c.session_frame.ensures _ c.in_ok-frame.was _ c.size-at.ensures (search rules)
 
 pub overflow_add-count : goal.overflow_add-count
 overflow_add-count c = search steps
 
 pub loop-at-smaller : goal.loop-at-smaller
-loop-at-smaller c = search steps
+loop-at-smaller c = frames_less _ _ _ _ c.loop-at.invariant c.loop-at-test.true _ c.session_frame.ensures _ c.in_ok-frame.was _ c.size-at.ensures
 
 pub loop-at-preserved : goal.loop-at-preserved
-loop-at-preserved c = search steps
+loop-at-preserved c = frames_on _ _ _ _ c.loop-at.invariant c.loop-at-test.true _ c.session_frame.ensures _ c.in_ok-frame.was _ c.size-at.ensures
 
 pub returns : goal.returns
 returns c = search steps
+
+pub returns-in_err-frame : goal.returns-in_err-frame
+returns-in_err-frame c = search steps

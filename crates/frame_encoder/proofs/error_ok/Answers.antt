@@ -7,17 +7,11 @@ use Rattle.frame_encoder.proofs.error_ok.Goals as goal
 
 ruleset steps = (condition_long, condition_no_text, condition_text, not-true, not-false, rules)
 
-pub returns-then-condition-gt255 : goal.returns-then-condition-gt255
-returns-then-condition-gt255 c = search steps
-
-pub is_ascii-requires : goal.is_ascii-requires
-is_ascii-requires c = search steps
+pub returns-then-error-gt255 : goal.returns-then-error-gt255
+returns-then-error-gt255 c = search steps
 
 pub returns-then-not-is_ascii : goal.returns-then-not-is_ascii
 returns-then-not-is_ascii c = search steps
-
-pub description_ok-requires : goal.description_ok-requires
-description_ok-requires c = search steps
 
 pub returns : goal.returns
 returns c = search steps

@@ -36,7 +36,7 @@ put_start-at-requires c = search steps
 
 pub put_error-requires : goal.put_error-requires
 put_error-requires c = (
-  error_short _ _ _ _ c.error_ok.ensures c.if-not-error_ok.false,
+  error_short _ _ c.error_ok.ensures c.if-not-error_ok.false,
   error_room _ _ _ _ _ _ _ _ c.error_fields-fields.ensures c.error_len-size.ensures.0 c.error_len-size.ensures.1 c.put_start-at.ensures.0 c.if-out-lt16384.false c.put_start-at.ensures.1,
 )
 

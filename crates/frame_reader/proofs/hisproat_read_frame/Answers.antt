@@ -9,14 +9,14 @@ ruleset steps = (told_short, told_refused, empty_long, told_empty, body_long, to
 pub returns-then-answer-lt-ANSWER_SIZE : goal.returns-then-answer-lt-ANSWER_SIZE
 returns-then-answer-lt-ANSWER_SIZE c = search steps
 
+pub returns-in-Err : goal.returns-in-Err
+returns-in-Err c = search steps
+
 pub put_frame-requires : goal.put_frame-requires
 put_frame-requires c = search steps
 
 pub put_frame-requires-in-Body : goal.put_frame-requires-in-Body
 put_frame-requires-in-Body c = search steps
-
-pub returns-in-Refused : goal.returns-in-Refused
-returns-in-Refused c = search steps
 
 pub returns-in-Empty : goal.returns-in-Empty
 returns-in-Empty c = search steps

@@ -7,20 +7,19 @@ use Rattle.hisproat.proofs.hisproat_on_incoming.Goals as goal
 
 pub returns-then-lacks_room : goal.returns-then-lacks_room
 unfolding room_for fits_in
-returns-then-lacks_room c = crosses_short _ _ _ _ c.lacks_room.ensures c.if-lacks_room.true
+returns-then-lacks_room c = rw c.number.ensures (crosses_short _ _ _ _ c.lacks_room.ensures c.if-lacks_room.true)
 
 pub returns-in_default : goal.returns-in_default
 unfolding room_for fits_in
-returns-in_default c =
-    crosses_broken _ _ _ _ c.lacks_room.ensures c.if-lacks_room.false _ c.from_bytes.ensures c.in_default.is
+returns-in_default c = rw c.number-in_default.ensures (crosses_broken _ _ _ _ c.lacks_room.ensures c.if-lacks_room.false _ c.from_bytes.ensures c.in_default.is)
 
 pub slice_bounds-on_incoming-count : goal.slice_bounds-on_incoming-count
-slice_bounds-on_incoming-count c = read_long _ _ c.from_bytes.ensures _ c.in-Is.is
+slice_bounds-on_incoming-count c = read_long _ _ c.from_bytes.ensures _ c.in-Some.is
 
 pub slice_bounds-on_incoming-start : goal.slice_bounds-on_incoming-start
-slice_bounds-on_incoming-start c = read_long _ _ c.from_bytes.ensures _ c.in-Is.is
+slice_bounds-on_incoming-start c = read_long _ _ c.from_bytes.ensures _ c.in-Some.is
 
 pub returns : goal.returns
 unfolding room_for fits_in
 returns c =
-    crosses_in _ _ _ _ c.lacks_room.ensures c.if-lacks_room.false _ c.from_bytes.ensures _ c.in-Is.is _ _ _ _ c.on_incoming-taken.ensures.0 _ _ _ _ _ c.received-received.ensures c.finish.ensures
+    crosses_in _ _ _ _ c.lacks_room.ensures c.if-lacks_room.false _ c.from_bytes.ensures _ c.in-Some.is _ _ _ _ c.on_incoming-taken.ensures.0 _ _ _ _ _ c.received-received.ensures c.finish.ensures

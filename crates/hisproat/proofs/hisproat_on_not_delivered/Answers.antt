@@ -7,14 +7,13 @@ use Rattle.hisproat.proofs.hisproat_on_not_delivered.Goals as goal
 
 pub returns-then-lacks_room : goal.returns-then-lacks_room
 unfolding room_for fits_in
-returns-then-lacks_room c = crosses_short _ _ _ _ c.lacks_room.ensures c.if-lacks_room.true
+returns-then-lacks_room c = rw c.number.ensures (crosses_short _ _ _ _ c.lacks_room.ensures c.if-lacks_room.true)
 
 pub returns-in_default : goal.returns-in_default
 unfolding room_for fits_in
-returns-in_default c =
-    crosses_broken _ _ _ _ c.lacks_room.ensures c.if-lacks_room.false _ c.from_bytes.ensures c.in_default.is
+returns-in_default c = rw c.number-in_default.ensures (crosses_broken _ _ _ _ c.lacks_room.ensures c.if-lacks_room.false _ c.from_bytes.ensures c.in_default.is)
 
 pub returns : goal.returns
 unfolding room_for fits_in
 returns c =
-    crosses_without _ _ _ _ c.lacks_room.ensures c.if-lacks_room.false _ c.from_bytes.ensures _ c.in-Is.is _ _ _ (does_undelivered _ _ c.is_set.ensures _ _ _ _ _ (c.on_not_delivered-told.ensures.0 _ _)) _ _ _ _ _ c.handled-failed.ensures c.finish.ensures
+    crosses_without _ _ _ _ c.lacks_room.ensures c.if-lacks_room.false _ c.from_bytes.ensures _ c.in-Some.is _ _ _ (does_undelivered _ _ c.is_set.ensures _ _ _ _ _ (c.on_not_delivered-told.ensures.0 _ _)) _ _ _ _ _ c.handled-failed.ensures c.finish.ensures

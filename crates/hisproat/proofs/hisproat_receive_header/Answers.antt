@@ -5,12 +5,11 @@ use Rattle.hisproat.proofs.Crossings.{crosses_short, crosses_broken, crosses_wit
 use Rattle.hisproat.proofs.hisproat_receive_header.Goals as goal
 
 pub returns-then-answer-lt-ANSWER_SIZE : goal.returns-then-answer-lt-ANSWER_SIZE
-returns-then-answer-lt-ANSWER_SIZE c = crosses_short _ _ _ _ (too_short _ _ refl c.if-answer-lt-ANSWER_SIZE.true) refl
+returns-then-answer-lt-ANSWER_SIZE c = rw c.number.ensures (crosses_short _ _ _ _ (too_short _ _ refl c.if-answer-lt-ANSWER_SIZE.true) refl)
 
 pub returns-in_default : goal.returns-in_default
-returns-in_default c =
-    crosses_broken _ _ _ _ (long_enough _ _ refl c.if-answer-lt-ANSWER_SIZE.false) refl _ c.from_bytes.ensures c.in_default.is
+returns-in_default c = rw c.number-in_default.ensures (crosses_broken _ _ _ _ (long_enough _ _ refl c.if-answer-lt-ANSWER_SIZE.false) refl _ c.from_bytes.ensures c.in_default.is)
 
 pub returns : goal.returns
 returns c =
-    crosses_without _ _ _ _ (long_enough _ _ refl c.if-answer-lt-ANSWER_SIZE.false) refl _ c.from_bytes.ensures _ c.in-Is.is _ _ _ (c.receive_header-came.ensures _ _) _ _ _ _ _ c.opening_received.ensures c.finish.ensures
+    crosses_without _ _ _ _ (long_enough _ _ refl c.if-answer-lt-ANSWER_SIZE.false) refl _ c.from_bytes.ensures _ c.in-Some.is _ _ _ (c.receive_header-came.ensures _ _) _ _ _ _ _ c.opening_received.ensures c.finish.ensures

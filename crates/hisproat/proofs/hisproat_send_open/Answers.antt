@@ -7,17 +7,16 @@ use Rattle.hisproat.proofs.hisproat_send_open.Goals as goal
 
 pub returns-then-lacks_room : goal.returns-then-lacks_room
 unfolding room_for fits_in
-returns-then-lacks_room c = crosses_short _ _ _ _ c.lacks_room.ensures c.if-lacks_room.true
+returns-then-lacks_room c = rw c.number.ensures (crosses_short _ _ _ _ c.lacks_room.ensures c.if-lacks_room.true)
 
 pub returns-in_default : goal.returns-in_default
 unfolding room_for fits_in
-returns-in_default c =
-    crosses_broken _ _ _ _ c.lacks_room.ensures c.if-lacks_room.false _ c.from_bytes.ensures c.in_default.is
+returns-in_default c = rw c.number-in_default.ensures (crosses_broken _ _ _ _ c.lacks_room.ensures c.if-lacks_room.false _ c.from_bytes.ensures c.in_default.is)
 
 pub container_id-requires : goal.container_id-requires
-container_id-requires c = read_long _ _ c.from_bytes.ensures _ c.in-Is.is
+container_id-requires c = read_long _ _ c.from_bytes.ensures _ c.in-Some.is
 
 pub returns : goal.returns
 unfolding room_for fits_in
 returns c =
-    crosses_open _ _ _ _ c.lacks_room.ensures c.if-lacks_room.false _ c.from_bytes.ensures _ c.in-Is.is _ c.container_id.ensures _ _ _ c.send_open-opening.ensures _ _ _ _ _ c.opening_sent.ensures c.finish.ensures
+    crosses_open _ _ _ _ c.lacks_room.ensures c.if-lacks_room.false _ c.from_bytes.ensures _ c.in-Some.is _ c.container_id.ensures _ _ _ c.send_open-opening.ensures _ _ _ _ _ c.opening_sent.ensures c.finish.ensures

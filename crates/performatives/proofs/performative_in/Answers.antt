@@ -14,68 +14,62 @@ ruleset steps = (unfit, other, rules)
 pub fields-requires : goal.fields-requires
 fields-requires c = search steps
 
-pub enum_known-last : goal.enum_known-last
-enum_known-last c = search steps
+pub returns-in_err-last : goal.returns-in_err-last
+returns-in_err-last c = rw c.from_residual.ensures (unfit _ _ _ _ _ c.in_err-last.ensures)
 
-pub enum_told-1 : goal.enum_told-1
-enum_told-1 c = search steps
+pub open-performative-requires : goal.open-performative-requires
+open-performative-requires c = open_given _ _ _ 0 0 _ c.in_ok-last.ensures c.in-16.is
+
+pub remote_channel-requires : goal.remote_channel-requires
+remote_channel-requires c = begin_given _ _ _ 0 0 _ c.in_ok-last.ensures c.in-17.is
+
+pub condition_in-requires : goal.condition_in-requires
+unfolding field_at field_of field_in fields_of fields_in rows_from
+condition_in-requires c = error_given _ _ _ _ 0 _ c.in_ok-last.ensures 22 2 c.in-22.is refl refl c.requires
+
+pub condition_in-requires-in-23 : goal.condition_in-requires-in-23
+unfolding field_at field_of field_in fields_of fields_in rows_from
+condition_in-requires-in-23 c = error_given _ _ _ _ 0 _ c.in_ok-last.ensures 23 0 c.in-23.is refl refl c.requires
+
+pub condition_in-requires-in-24 : goal.condition_in-requires-in-24
+unfolding field_at field_of field_in fields_of fields_in rows_from
+condition_in-requires-in-24 c = error_given _ _ _ _ 0 _ c.in_ok-last.ensures 24 0 c.in-24.is refl refl c.requires
 
 pub returns-in_default : goal.returns-in_default
 returns-in_default c = search steps
 
-pub open-performative-requires : goal.open-performative-requires
-open-performative-requires c = open_given _ _ _ 0 0 _ c.fields.ensures _ c.in-Fit.is c.in-16.is
-
-pub remote_channel-requires : goal.remote_channel-requires
-remote_channel-requires c = begin_given _ _ _ 0 0 _ c.fields.ensures _ c.in-Fit.is c.in-17.is
-
-pub condition_in-requires : goal.condition_in-requires
-unfolding field_at field_of field_in fields_of fields_in rows_from
-condition_in-requires c = error_given _ _ _ _ 0 _ c.fields.ensures _ c.in-Fit.is 22 2 c.in-22.is refl refl c.requires
-
-pub condition_in-requires-in-23 : goal.condition_in-requires-in-23
-unfolding field_at field_of field_in fields_of fields_in rows_from
-condition_in-requires-in-23 c = error_given _ _ _ _ 0 _ c.fields.ensures _ c.in-Fit.is 23 0 c.in-23.is refl refl c.requires
-
-pub condition_in-requires-in-24 : goal.condition_in-requires-in-24
-unfolding field_at field_of field_in fields_of fields_in rows_from
-condition_in-requires-in-24 c = error_given _ _ _ _ 0 _ c.fields.ensures _ c.in-Fit.is 24 0 c.in-24.is refl refl c.requires
-
-pub returns-in_default-code : goal.returns-in_default-code
-returns-in_default-code c = search steps
-
 pub returns-in-16 : goal.returns-in-16
 unfolding rows_for rows_from fields_of fields_in
-returns-in-16 c = says c.open-performative.result _ _ _ c.open-performative.ensures ∙ arm _ _ _ _ _ _ c.fields.ensures _ c.in-Fit.is 16 _ c.in-16.is refl (open_values _ _ _ _)
+returns-in-16 c = says c.open-performative.result _ _ _ c.open-performative.ensures ∙ arm _ _ _ _ _ _ c.in_ok-last.ensures 16 _ c.in-16.is refl (open_values _ _ _ _)
 
 pub returns-in-17 : goal.returns-in-17
 unfolding rows_for rows_from fields_of fields_in
-returns-in-17 c = arm _ _ _ _ _ _ c.fields.ensures _ c.in-Fit.is 17 _ c.in-17.is refl (λ fs e. c.remote_channel.ensures ∙ begin_values _ _ _ _ fs e)
+returns-in-17 c = arm _ _ _ _ _ _ c.in_ok-last.ensures 17 _ c.in-17.is refl (λ fs e. c.remote_channel.ensures ∙ begin_values _ _ _ _ fs e)
 
 pub returns-in-18 : goal.returns-in-18
 unfolding rows_for rows_from fields_of fields_in values_of values_in
-returns-in-18 c = arm _ _ _ _ _ _ c.fields.ensures _ c.in-Fit.is 18 [] c.in-18.is refl (λ fs e. refl)
+returns-in-18 c = arm _ _ _ _ _ _ c.in_ok-last.ensures 18 [] c.in-18.is refl (λ fs e. refl)
 
 pub returns-in-19 : goal.returns-in-19
 unfolding rows_for rows_from fields_of fields_in values_of values_in
-returns-in-19 c = arm _ _ _ _ _ _ c.fields.ensures _ c.in-Fit.is 19 [] c.in-19.is refl (λ fs e. refl)
+returns-in-19 c = arm _ _ _ _ _ _ c.in_ok-last.ensures 19 [] c.in-19.is refl (λ fs e. refl)
 
 pub returns-in-20 : goal.returns-in-20
 unfolding rows_for rows_from fields_of fields_in values_of values_in
-returns-in-20 c = arm _ _ _ _ _ _ c.fields.ensures _ c.in-Fit.is 20 [] c.in-20.is refl (λ fs e. refl)
+returns-in-20 c = arm _ _ _ _ _ _ c.in_ok-last.ensures 20 [] c.in-20.is refl (λ fs e. refl)
 
 pub returns-in-21 : goal.returns-in-21
 unfolding rows_for rows_from fields_of fields_in values_of values_in
-returns-in-21 c = arm _ _ _ _ _ _ c.fields.ensures _ c.in-Fit.is 21 [] c.in-21.is refl (λ fs e. refl)
+returns-in-21 c = arm _ _ _ _ _ _ c.in_ok-last.ensures 21 [] c.in-21.is refl (λ fs e. refl)
 
 pub returns-in-22 : goal.returns-in-22
 unfolding rows_for rows_from fields_of fields_in values_of values_in
-returns-in-22 c = arm _ _ _ _ _ _ c.fields.ensures _ c.in-Fit.is 22 _ c.in-22.is refl (λ fs e. c.condition_in.ensures ∙ condition_values _ _ _ _ fs e 22 2)
+returns-in-22 c = arm _ _ _ _ _ _ c.in_ok-last.ensures 22 _ c.in-22.is refl (λ fs e. c.condition_in.ensures ∙ condition_values _ _ _ _ fs e 22 2)
 
 pub returns-in-23 : goal.returns-in-23
 unfolding rows_for rows_from fields_of fields_in values_of values_in
-returns-in-23 c = arm _ _ _ _ _ _ c.fields.ensures _ c.in-Fit.is 23 _ c.in-23.is refl (λ fs e. c.condition_in-in-23.ensures ∙ condition_values _ _ _ _ fs e 23 0)
+returns-in-23 c = arm _ _ _ _ _ _ c.in_ok-last.ensures 23 _ c.in-23.is refl (λ fs e. c.condition_in-in-23.ensures ∙ condition_values _ _ _ _ fs e 23 0)
 
 pub returns-in-24 : goal.returns-in-24
 unfolding rows_for rows_from fields_of fields_in values_of values_in
-returns-in-24 c = arm _ _ _ _ _ _ c.fields.ensures _ c.in-Fit.is 24 _ c.in-24.is refl (λ fs e. c.condition_in-in-24.ensures ∙ condition_values _ _ _ _ fs e 24 0)
+returns-in-24 c = arm _ _ _ _ _ _ c.in_ok-last.ensures 24 _ c.in-24.is refl (λ fs e. c.condition_in-in-24.ensures ∙ condition_values _ _ _ _ fs e 24 0)

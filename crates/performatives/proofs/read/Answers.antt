@@ -10,14 +10,8 @@ ruleset steps = (items_ordered, items_inside, read_not, read_is, rules)
 pub described_list-requires : goal.described_list-requires
 described_list-requires c = search steps
 
-pub enum_known-code : goal.enum_known-code
-enum_known-code c = search steps
-
-pub enum_told-1 : goal.enum_told-1
-enum_told-1 c = search steps
-
-pub returns-in_default : goal.returns-in_default
-returns-in_default c = search steps
+pub returns-in_err-code : goal.returns-in_err-code
+returns-in_err-code c = search steps
 
 pub slice_bounds-performative_in-count : goal.slice_bounds-performative_in-count
 slice_bounds-performative_in-count c = search steps

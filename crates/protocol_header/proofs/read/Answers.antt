@@ -10,8 +10,8 @@ ruleset steps = (read_no_prefix, read_no_id, read_amqp, read_other, not-true, no
 pub returns-then-s-lt8 : goal.returns-then-s-lt8
 returns-then-s-lt8 c = read_missing _ (omega arith)
 
-pub returns-then-not-starts_with_all : goal.returns-then-not-starts_with_all
-returns-then-not-starts_with_all c = search steps
+pub returns-then-not-starts_with : goal.returns-then-not-starts_with
+returns-then-not-starts_with c = search steps
 
 pub returns-in_default : goal.returns-in_default
 returns-in_default c = search steps

@@ -12,12 +12,6 @@ returns-then-left-eq0 t c = search steps
 pub field_row-requires : goal.field_row-requires
 field_row-requires t c = search steps
 
-pub enum_known-kind : goal.enum_known-kind
-enum_known-kind t c = search steps
-
-pub enum_told-1 : goal.enum_told-1
-enum_told-1 t c = search steps
-
 pub returns-in_default : goal.returns-in_default
 returns-in_default t c = search steps
 
@@ -28,7 +22,10 @@ pub slice_bounds-put_field-end : goal.slice_bounds-put_field-end
 slice_bounds-put_field-end t c = search steps
 
 pub put_field-next-requires : goal.put_field-next-requires
-put_field-next-requires t c = search steps
+put_field-next-requires t c = (
+  head_sized _ _ _ _ _ c.in-Some.ensures _ _ c.requires.0 _ c.first_len-n.ensures,
+  head_room _ _ _ _ _ c.in-Some.ensures _ _ _ c.first_len-n.ensures _ c.if-left-eq0.false _ _ c.requires.1,
+)
 
 pub slice_bounds-put_fields-count : goal.slice_bounds-put_fields-count
 slice_bounds-put_fields-count t c = search steps
@@ -42,17 +39,20 @@ slice_bounds-put_fields-end t c = search steps
 pub overflow_add-i : goal.overflow_add-i
 overflow_add-i t c = search steps
 
-pub one_less-requires : goal.one_less-requires
-one_less-requires t c = search steps
-
 pub overflow_sub-left : goal.overflow_sub-left
 overflow_sub-left t c = search steps
 
 pub put_fields-requires : goal.put_fields-requires
-put_fields-requires t c = search steps
+put_fields-requires t c = (
+  search steps,
+  (
+    tail_checked _ _ _ _ _ c.in-Some.ensures _ _ c.requires.0 _ c.first_len-n.ensures _ c.saturating_sub.ensures,
+    tail_room _ _ _ _ _ c.in-Some.ensures _ _ _ c.first_len-n.ensures _ c.if-left-eq0.false _ _ c.requires.1 _ c.put_field-next.ensures.1 _ c.saturating_sub.ensures _ c.put_field-next.ensures.0,
+  ),
+)
 
 pub shape_of-out : goal.shape_of-out
 shape_of-out t c = search steps
 
 pub returns : goal.returns
-returns t c = search steps
+returns t c = fields_laid _ _ _ _ _ c.in-Some.ensures _ _ _ c.first_len-n.ensures _ c.if-left-eq0.false _ _ c.requires.1 _ c.put_field-next.ensures.1 _ c.saturating_sub.ensures _ c.put_field-next.ensures.0 _ c.put_fields.ensures

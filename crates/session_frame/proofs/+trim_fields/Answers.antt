@@ -9,12 +9,6 @@ ruleset steps = (first_in, first_counts, trim_none, row_fits, fewer_rows, head_s
 pub field_row-requires : goal.field_row-requires
 field_row-requires t c = search steps
 
-pub enum_known-kind : goal.enum_known-kind
-enum_known-kind t c = search steps
-
-pub enum_told-1 : goal.enum_told-1
-enum_told-1 t c = search steps
-
 pub returns-in_default : goal.returns-in_default
 returns-in_default t c = search steps
 
@@ -39,9 +33,6 @@ slice_bounds-trim_fields-end t c = search steps
 pub overflow_add-i : goal.overflow_add-i
 overflow_add-i t c = search steps
 
-pub one_less-requires : goal.one_less-requires
-one_less-requires t c = search steps
-
 pub trim_fields-rest-requires : goal.trim_fields-rest-requires
 trim_fields-rest-requires t c = search steps
 
@@ -49,4 +40,4 @@ pub before-requires : goal.before-requires
 before-requires t c = search steps
 
 pub returns : goal.returns
-returns t c = search steps
+returns t c = trim_step _ _ _ _ _ c.in-Some.ensures _ _ _ c.first_len-n.ensures _ c.saturating_sub.ensures _ c.field_size-field.ensures _ c.trim_fields-rest.ensures _ c.before-2.ensures

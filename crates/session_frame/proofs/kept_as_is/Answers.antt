@@ -10,26 +10,11 @@ ruleset steps = (kept_start, kept_all, kept_malformed, byte_in, kept_null, kept_
 pub loop-i-init : goal.loop-i-init
 loop-i-init c = search steps
 
-pub end_at-end-requires : goal.end_at-end-requires
-end_at-end-requires c = search steps
-
 pub returns-then-end-eq0 : goal.returns-then-end-eq0
 returns-then-end-eq0 c = search steps
 
 pub bounds-s-at : goal.bounds-s-at
 bounds-s-at c = search steps
-
-pub overflow_cast-n : goal.overflow_cast-n
-overflow_cast-n c = search steps
-
-pub overflow_add-n : goal.overflow_add-n
-overflow_add-n c = search steps
-
-pub overflow_add-i : goal.overflow_add-i
-overflow_add-i c = search steps
-
-pub loop-i-smaller : goal.loop-i-smaller
-loop-i-smaller c = search steps
 
 pub loop-i-preserved : goal.loop-i-preserved
 loop-i-preserved c = elim c.if-s-at-ne64.branch [ then-s-at-ne64 w ↦ search steps | else-s-at-ne64 w ↦ search steps ]

@@ -10,6 +10,3 @@ use Rattle.session_frame.proofs.kept_as_is.Given as goal
 
 abbrev pub invariant-loop-i : goal.invariant-loop-i
 invariant-loop-i l = kept_of (trimmed (as_they_are l.count l.s)) ≡ kept_with l.i l.at l.n l.len (trimmed (as_they_are (l.count - l.i) (drop l.at l.s)))
-
-abbrev pub decreases-loop-i : goal.decreases-loop-i
-decreases-loop-i l = l.count - l.i

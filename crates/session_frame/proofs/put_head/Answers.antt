@@ -24,9 +24,6 @@ put_composite_header-requires c = search steps
 pub overflow_cast-plan-4 : goal.overflow_cast-plan-4
 overflow_cast-plan-4 c = search steps
 
-pub header_len-requires : goal.header_len-requires
-header_len-requires c = search steps
-
 pub overflow_add-result : goal.overflow_add-result
 overflow_add-result c = search steps
 

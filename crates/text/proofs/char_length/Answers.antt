@@ -30,7 +30,7 @@ unfolding characters followers
 returns-in-244 c = char_followed _ 0xF4 0xF4 4 0x80 0x8F _ (search rows depth 12) (omega arith) (search rules)
 
 pub returns-in-0-to-127 : goal.returns-in-0-to-127
-returns-in-0-to-127 c = search char_one
+returns-in-0-to-127 c = char_one _ (omega arith) (omega arith)
 
 pub returns-in-194-to-223 : goal.returns-in-194-to-223
 unfolding characters followers

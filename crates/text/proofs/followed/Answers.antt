@@ -1,34 +1,32 @@
--- `text::followed` meets its contract. The invariant: what is left to ask is whether the octets from i up to n are tails.
-use Rattle.text.proofs.Steps.{followed_short, followed_stops, followed_starts, tails_stop, tails_go_on, tails_end}
+-- `text::followed` meets its contract: a law for each return, by what the octets after the second are.
+-- Assumes nothing.
+use Prim.Native.Nat.{◌-◌}
 use native.Mathlib.Omega.{arith}
+use lib.ListN.{take, drop, replicate, length-drop}
+use mathlib.Core.Path.{◌≡◌}
+use mathlib.Core.Bool.{true, false}
+use borrow.Author.Rules.{rules}
+use Rattle.std.proofs.lemmas.Iterator.{cases_from_all, YieldsList-from_slice}
+use Rattle.text.specs.Utf8.{tail, in_range, starts}
+use Rattle.text.proofs.Steps.{followed_short, followed_stops, are_tails, tails_stop, tails_end}
 use Rattle.text.proofs.followed.Goals as goal
+use Rattle.text.proofs.followed.Goals.{After-all}
+
+ruleset steps = (followed_short, followed_stops, tails_stop, tails_end, rules)
 
 pub returns-then-s-n : goal.returns-then-s-n
-returns-then-s-n c = search followed_short
-
-pub bounds-s-1 : goal.bounds-s-1
-bounds-s-1 c = omega arith
+returns-then-s-n c = search steps
 
 pub returns-then-not-within : goal.returns-then-not-within
-returns-then-not-within c = search followed_stops
+returns-then-not-within c = search steps
 
-pub loop-i-init : goal.loop-i-init
-loop-i-init c = (omega arith, omega arith, search followed_starts)
+told : (c : After-all) → c.all.result ≡ starts (replicate (c.args.n - 2) tail) (drop 2 c.args.s.now)
+told c =
+    are_tails (c.args.n - 2) (drop 2 c.args.s.now) c.all.result (simp length-drop (omega arith))
+    (cases_from_all _ _ _ (λ b. in_range tail b ≡ true) (λ b. in_range tail b ≡ false) c.all.ensures.ran (YieldsList-from_slice (take (c.args.n - 2) (drop 2 c.args.s.now)) cc) (λ x q k. search rules) (λ x q k. search rules))
 
-pub bounds-s-i : goal.bounds-s-i
-bounds-s-i c = omega arith
-
-pub returns-then-not-within-2 : goal.returns-then-not-within-2
-returns-then-not-within-2 c = search tails_stop
-
-pub overflow_add-i : goal.overflow_add-i
-overflow_add-i c = omega arith
-
-pub loop-i-smaller : goal.loop-i-smaller
-loop-i-smaller c = omega arith
-
-pub loop-i-preserved : goal.loop-i-preserved
-loop-i-preserved c = (omega arith, omega arith, search tails_go_on)
+pub returns-then-not-all : goal.returns-then-not-all
+returns-then-not-all c = let t = told (goal.at.returns-then-not-all c).After-all in search steps
 
 pub returns : goal.returns
-returns c = search tails_end
+returns c = let t = told (goal.at.returns c).After-all in search steps

@@ -1,30 +1,25 @@
--- `text::is_utf8` meets its contract. The invariant: s is UTF-8 just where what is left of it from `at` on is.
-use Rattle.text.proofs.Steps.{ascii_told, char_lies, char_fits, text_stops, text_goes_on, text_ends}
-use native.Mathlib.Omega.{arith}
+-- `text::is_utf8` meets its contract. The invariant: s is UTF-8 just where what is left of it is.
+-- Assumes nothing.
 use borrow.Author.Rules.{rules}
-use mathlib.Core.Path.{refl}
+use Rattle.text.proofs.Steps.{ascii_told, char_lies, char_smaller, text_goes_on, text_ends}
 use Rattle.text.proofs.is_utf8.Goals as goal
 
+ruleset steps = (ascii_told, char_lies, char_smaller, text_goes_on, text_ends, rules)
+
 pub returns-then-is_ascii : goal.returns-then-is_ascii
-returns-then-is_ascii c = search (ascii_told, rules)
+returns-then-is_ascii c = search steps
 
-pub loop-at-init : goal.loop-at-init
-loop-at-init c = (omega arith, refl)
+pub slice_bounds-rest-count : goal.slice_bounds-rest-count
+slice_bounds-rest-count c = search steps
 
-pub slice_bounds-char_length-count : goal.slice_bounds-char_length-count
-slice_bounds-char_length-count c = omega arith
+pub slice_bounds-rest-start : goal.slice_bounds-rest-start
+slice_bounds-rest-start c = search steps
 
-pub returns-then-n-eq0 : goal.returns-then-n-eq0
-returns-then-n-eq0 c = search text_stops
+pub loop-n-smaller : goal.loop-n-smaller
+loop-n-smaller c = search steps
 
-pub overflow_add-at : goal.overflow_add-at
-overflow_add-at c = search char_fits
-
-pub loop-at-smaller : goal.loop-at-smaller
-loop-at-smaller c = omega arith
-
-pub loop-at-preserved : goal.loop-at-preserved
-loop-at-preserved c = (search char_lies, search text_goes_on)
+pub loop-n-preserved : goal.loop-n-preserved
+loop-n-preserved c = search steps
 
 pub returns : goal.returns
-returns c = search text_ends
+returns c = search steps

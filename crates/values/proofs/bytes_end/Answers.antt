@@ -1,13 +1,10 @@
 -- `bytes_end`: one law for each answer.
 -- Assumes nothing.
 use borrow.Author.Rules.{rules}
-use Rattle.values.proofs.Steps.{bytes_off, bytes_on, end_fits}
+use Rattle.values.proofs.Steps.{bytes_off, bytes_on}
 use Rattle.values.proofs.bytes_end.Goals as goal
 
-ruleset steps = (bytes_off, bytes_on, end_fits, rules)
-
-pub overflow_add-end : goal.overflow_add-end
-overflow_add-end c = search steps
+ruleset steps = (bytes_off, bytes_on, rules)
 
 pub returns-then-s-end : goal.returns-then-s-end
 returns-then-s-end c = search steps

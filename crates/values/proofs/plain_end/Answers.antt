@@ -6,29 +6,8 @@ use Rattle.values.proofs.plain_end.Goals as goal
 
 ruleset steps = (plain_short, plain_sized, rules)
 
-pub bounds-s-at : goal.bounds-s-at
-bounds-s-at c = search steps
-
-pub overflow_add-at : goal.overflow_add-at
-overflow_add-at c = search steps
-
-pub fixed_width-requires : goal.fixed_width-requires
-fixed_width-requires c = search steps
-
-pub overflow_cast-fixed_width : goal.overflow_cast-fixed_width
-overflow_cast-fixed_width c = search steps
-
-pub bytes_end-requires : goal.bytes_end-requires
-bytes_end-requires c = search steps
-
 pub returns-then-c-lt160 : goal.returns-then-c-lt160
 returns-then-c-lt160 c = search steps
-
-pub overflow_add-at-2 : goal.overflow_add-at-2
-overflow_add-at-2 c = search steps
-
-pub variable_end-requires : goal.variable_end-requires
-variable_end-requires c = search steps
 
 pub returns : goal.returns
 returns c = search steps

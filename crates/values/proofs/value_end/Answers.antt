@@ -12,29 +12,8 @@ returns-then-s-eq0 c = search steps
 pub returns-then-depth-eq0 : goal.returns-then-depth-eq0
 returns-then-depth-eq0 c = search steps
 
-pub bounds-s-0 : goal.bounds-s-0
-bounds-s-0 c = search steps
-
-pub is_plain-requires : goal.is_plain-requires
-is_plain-requires c = search steps
-
-pub plain_end-requires : goal.plain_end-requires
-plain_end-requires c = search steps
-
-pub value_to-requires : goal.value_to-requires
-value_to-requires c = search steps
-
 pub returns-then-is_plain : goal.returns-then-is_plain
 returns-then-is_plain c = search steps
-
-pub bounds-s-0-2 : goal.bounds-s-0-2
-bounds-s-0-2 c = search steps
-
-pub other_end-requires : goal.other_end-requires
-other_end-requires c = search steps
-
-pub value_to-requires-2 : goal.value_to-requires-2
-value_to-requires-2 c = search steps
 
 pub returns : goal.returns
 returns c = search steps

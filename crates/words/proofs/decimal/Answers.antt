@@ -8,9 +8,12 @@ use Rattle.words.proofs.decimal.Goals as goal
 
 ruleset steps = (decimal_end, decimal_none, decimal_full, decimal_more, rules)
 
-pub loop-i-init : goal.loop-i-init
+pub loop-b-init : goal.loop-b-init
 unfolding decimal_in
-loop-i-init c = refl
+loop-b-init c = refl
+
+pub returns-in_default : goal.returns-in_default
+returns-in_default c = search steps
 
 pub returns-then-d-ge10 : goal.returns-then-d-ge10
 returns-then-d-ge10 c = search steps
@@ -18,8 +21,8 @@ returns-then-d-ge10 c = search steps
 pub returns-then-n-ge1000000000000000000 : goal.returns-then-n-ge1000000000000000000
 returns-then-n-ge1000000000000000000 c = search steps
 
-pub loop-i-preserved : goal.loop-i-preserved
-loop-i-preserved c = search steps
+pub loop-b-preserved : goal.loop-b-preserved
+loop-b-preserved c = search steps
 
 pub returns : goal.returns
 returns c = search steps

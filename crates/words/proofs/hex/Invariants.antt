@@ -1,12 +1,9 @@
--- `hex`: what has been laid down, and the digits from the place that the loop has come to.
+-- `hex`: what has been laid down.
 -- Assumes nothing.
-use Prim.Native.Nat.{◌-◌}
-use lib.ListN.{length}
-use Rattle.words.proofs.Laws.{Laying}
+use mathlib.Core.Path.{◌≡◌}
+use lib.Seq.{paste}
+use Rattle.words.specs.Words.{hex_for}
 use Rattle.words.proofs.hex.Given as goal
 
-abbrev pub invariant-loop-at : goal.invariant-loop-at
-invariant-loop-at l = Laying l.w l.initial.out l.out l.n l.at
-
-abbrev pub decreases-loop-at : goal.decreases-loop-at
-decreases-loop-at l = length l.w - l.at
+abbrev pub invariant-loop-i : goal.invariant-loop-i
+invariant-loop-i l = l.out ≡ paste l.initial.out 0 (hex_for l.w l.initial.out) l.i

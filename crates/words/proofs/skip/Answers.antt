@@ -1,20 +1,22 @@
--- `skip`: the place that is looked for is the same from each place that the loop has come to.
+-- `skip`: the bytes that are passed over are those before the place.
 -- Assumes nothing.
-use mathlib.Core.Path.{refl}
+use mathlib.Core.Path.{◌≡◌, sym, ap, ◌∙◌}
+use Prim.Native.Nat.{ℕ, ◌+◌}
+use lib.Dec.{eqb}
+use lib.ListN.{length, drop}
 use borrow.Author.Rules.{rules}
-use Rattle.words.proofs.Laws.{place_here, place_next, place_end, not_eq, not_ne}
+use Rattle.std.specs.List.{take_while}
+use Rattle.std.proofs.lemmas.Iterator.{YieldsList-from_slice}
+use Rattle.std.proofs.lemmas.Iterator.Adapters.{YieldsList-from_skip}
+use Rattle.std.proofs.lemmas.Iterator.Search.{YieldsList-from_take_while}
+use Rattle.std.proofs.lemmas.Iterator.Consumers.{count_from_yields_List}
+use Rattle.words.specs.Words.{other_than}
+use Rattle.words.proofs.Laws.{until_while, not_not}
 use Rattle.words.proofs.skip.Goals as goal
 
-ruleset steps = (place_here, place_next, place_end, not_eq, not_ne, rules)
-
-pub loop-i-init : goal.loop-i-init
-loop-i-init c = refl
-
-pub returns-then-s-i : goal.returns-then-s-i
-returns-then-s-i c = search steps
-
-pub loop-i-preserved : goal.loop-i-preserved
-loop-i-preserved c = search steps
-
 pub returns : goal.returns
-returns c = search steps
+returns c =
+    let e : c.count.result ≡ length (take_while (λ x. eqb x c.args.b) (drop c.args.from c.args.s.now)) =
+    count_from_yields_List _ _ c.count.ensures.ran
+    (YieldsList-from_take_while _ (λ x. eqb x c.args.b) (YieldsList-from_skip c.args.from (YieldsList-from_slice c.args.s.now (cc)) (cc)) c.take_while.ensures.closure c.take_while.ensures.done (λ x r q k. search rules)) in
+    ap (λ (k : ℕ). c.args.from + k) (e ∙ until_while (other_than c.args.b) (λ x. eqb x c.args.b) (drop c.args.from c.args.s.now) (λ x. sym (not_not (eqb x c.args.b))))

@@ -8,11 +8,11 @@ use Rattle.words.specs.Words.{word_in}
 use Rattle.words.proofs.Laws.{word_next, word_here}
 use Rattle.words.proofs.word.Goals as goal
 
-pub loop-i-init : goal.loop-i-init
-loop-i-init c = ap (λ (k : ℕ). word_in k c.args.line.now) (sym (sub-zero c.args.n))
+pub loop-passed-init : goal.loop-passed-init
+loop-passed-init c = ap (λ (k : ℕ). word_in k c.args.line.now) (sym (sub-zero c.args.n))
 
-pub loop-i-preserved : goal.loop-i-preserved
-loop-i-preserved c = search (word_next, rules)
+pub loop-passed-preserved : goal.loop-passed-preserved
+loop-passed-preserved c = search (word_next, rules)
 
 pub returns : goal.returns
 returns c = search (word_here, rules)

@@ -6,8 +6,5 @@ use lib.ListN.{drop}
 use Rattle.words.specs.Words.{word_in}
 use Rattle.words.proofs.word.Given as goal
 
-abbrev pub invariant-loop-i : goal.invariant-loop-i
-invariant-loop-i l = word_in l.n l.line ≡ word_in (l.n - l.i) (drop l.at l.line)
-
-abbrev pub decreases-loop-i : goal.decreases-loop-i
-decreases-loop-i l = l.n - l.i
+abbrev pub invariant-loop-passed : goal.invariant-loop-passed
+invariant-loop-passed l = word_in l.n l.line ≡ word_in (l.n - l._passed) (drop l.at l.line)

@@ -21,5 +21,5 @@ write-requires c = (has_true _ _ _ c.has.ensures c.if-not-has.false, search rule
 
 pub returns : goal.returns
 returns c =
-    freed _ _ _ _ c.in-Handle.ensures _ refl c.if-self-freed.false _ c.wide-k.ensures _ c.has.ensures
+    freed _ _ _ _ c.in-Some.ensures _ refl c.if-self-freed.false _ c.from-k.ensures _ c.has.ensures
     c.if-not-has.false (search rules) _ c.next_free.ensures _ c.write.ensures

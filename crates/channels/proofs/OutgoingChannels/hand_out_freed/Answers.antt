@@ -6,8 +6,8 @@ use Rattle.channels.proofs.Fields.{has_true}
 use Rattle.channels.proofs.Steps.{freed_full, freed_short, freed_astray, freed_taken}
 use Rattle.channels.proofs.OutgoingChannels.hand_out_freed.Goals as goal
 
-pub returns-then-wide-k : goal.returns-then-wide-k
-returns-then-wide-k c = search (freed_full, rules)
+pub returns-then-from-k : goal.returns-then-from-k
+returns-then-from-k c = search (freed_full, rules)
 
 pub returns-then-not-has : goal.returns-then-not-has
 returns-then-not-has c = search (freed_short, not-true, rules)

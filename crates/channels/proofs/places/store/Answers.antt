@@ -1,19 +1,9 @@
--- `channels::places::store` meets its contract: by its definition.
+-- `channels::places::store` meets its contract: four bytes that are copied are four that are set.
 -- Assumes nothing.
+use mathlib.Core.Path.{◌∙◌}
 use native.Mathlib.Omega.{arith}
-use lib.ListN.{length-set}
-use Rattle.channels.specs.Places.{store}
+use Rattle.channels.proofs.Words.{stored}
 use Rattle.channels.proofs.places.store.Goals as goal
 
-pub bounds-s-at-2 : goal.bounds-s-at-2
-bounds-s-at-2 c = simp length-set (omega arith)
-
-pub bounds-s-at-3 : goal.bounds-s-at-3
-bounds-s-at-3 c = simp length-set (omega arith)
-
-pub bounds-s-at-4 : goal.bounds-s-at-4
-bounds-s-at-4 c = simp length-set (omega arith)
-
 pub returns : goal.returns
-unfolding store
-returns c = cc
+returns c = stored _ _ _ _ c.requires (omega arith) (c.copy_from_slice.ensures.after ∙ c.to_be_bytes.ensures)

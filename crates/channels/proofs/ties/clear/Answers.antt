@@ -1,4 +1,4 @@
--- `channels::ties::clear` meets its contract: the loop's invariant and measure, and a law for each of its steps.
+-- `channels::ties::clear` meets its contract: the loop's invariant, and a law for each of its steps.
 -- Assumes nothing.
 use native.Mathlib.Omega.{arith}
 use borrow.Author.Rules.{rules}
@@ -16,7 +16,12 @@ loop-k-init c = search (cleared_none, has_true, not-false, rules)
 pub loop-k-preserved : goal.loop-k-preserved
 loop-k-preserved c =
     let i = c.loop-k.invariant in
-    (omega arith, cleared_more _ _ _ _ _ _ (omega arith) i.2 i.1 c.write.ensures c.write-in-loop-k.ensures, i.2)
+    (cleared_more _ _ _ _ _ _ (omega arith) i.1 i.0 c.write.ensures c.write-in-loop-k.ensures, i.1)
 
-pub returns : goal.returns
-returns c = cleared_all _ _ _ _ (omega arith) c.loop-k.invariant.1
+pub returns-else-not-covers : goal.returns-else-not-covers
+returns-else-not-covers c = absurd (omega arith)
+
+pub returns-else-not-covers-2 : goal.returns-else-not-covers-2
+returns-else-not-covers-2 c =
+    let i = c.loop-k.invariant in
+    cleared_all _ _ _ _ (omega arith) (cleared_more _ _ _ _ _ _ (omega arith) i.1 i.0 c.write.ensures c.write-in-loop-k.ensures)

@@ -2,6 +2,7 @@
 -- Assumes nothing.
 use borrow.Author.Rules.{rules}
 use borrow.Author.Tests.{not-true, not-false}
+use native.Mathlib.Omega.{arith}
 use Rattle.channels.proofs.Tying.{place_room}
 use Rattle.channels.proofs.Dropping.{drops_short, drop_covered, drops_all}
 use Rattle.channels.proofs.ties.drop_through.Goals as goal
@@ -16,9 +17,9 @@ pub write-requires : goal.write-requires
 write-requires c = search (place_room, not-false, rules)
 
 pub drop_from-requires : goal.drop_from-requires
-drop_from-requires c = (drop_covered _ _ _ _ c.is_place.ensures c.if-not-is_place.false _ c.wide.ensures _ _ _ _ c.write.ensures, search rules)
+drop_from-requires c = (drop_covered _ _ _ _ c.is_place.ensures c.if-not-is_place.false _ (c.from.ensures, omega arith) _ _ _ _ c.write.ensures, search rules)
 
 pub returns : goal.returns
 returns c =
-    drops_all _ _ _ _ c.is_place.ensures c.if-not-is_place.false _ c.wide-ch.ensures _ c.field-first.ensures _ c.write.ensures _ c.wide.ensures _
+    drops_all _ _ _ _ c.is_place.ensures c.if-not-is_place.false _ (c.from-ch.ensures, omega arith) _ c.field-first.ensures _ c.write.ensures _ (c.from.ensures, omega arith) _
     c.drop_from.ensures

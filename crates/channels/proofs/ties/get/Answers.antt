@@ -6,8 +6,8 @@ use Rattle.channels.proofs.Fields.{has_true}
 use Rattle.channels.proofs.Tying.{found_above, found_short, found_none, found}
 use Rattle.channels.proofs.ties.get.Goals as goal
 
-pub returns-then-wide-k : goal.returns-then-wide-k
-returns-then-wide-k c = search (found_above, rules)
+pub returns-then-from-k : goal.returns-then-from-k
+returns-then-from-k c = search (found_above, rules)
 
 pub returns-then-not-has : goal.returns-then-not-has
 returns-then-not-has c = search (found_short, not-true, rules)

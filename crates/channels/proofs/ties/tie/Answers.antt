@@ -14,19 +14,19 @@ returns-then-not-is_place c = search (tied_short, not-true, rules)
 
 pub unbind-requires : goal.unbind-requires
 unbind-requires c = (
-  top_covered _ _ _ _ c.is_place.ensures c.if-not-is_place.false _ c.wide-top.ensures,
-  top_over _ _ _ _ c.is_place.ensures c.if-not-is_place.false _ c.wide-top.ensures _ c.wide-k.ensures,
+  top_covered _ _ _ _ c.is_place.ensures c.if-not-is_place.false _ (c.from-top.ensures, omega arith),
+  top_over _ _ _ _ c.is_place.ensures c.if-not-is_place.false _ (c.from-top.ensures, omega arith) _ (c.from-k.ensures, omega arith),
 )
 
 pub push-requires : goal.push-requires
 push-requires c = (
-  still_covered _ _ _ _ c.is_place.ensures c.if-not-is_place.false _ c.wide-top.ensures _ c.wide-k.ensures _ c.unbind.ensures,
+  still_covered _ _ _ _ c.is_place.ensures c.if-not-is_place.false _ (c.from-top.ensures, omega arith) _ (c.from-k.ensures, omega arith) _ c.unbind.ensures,
   search rules,
-  top_over _ _ _ _ c.is_place.ensures c.if-not-is_place.false _ c.wide-top.ensures _ c.wide-k.ensures,
+  top_over _ _ _ _ c.is_place.ensures c.if-not-is_place.false _ (c.from-top.ensures, omega arith) _ (c.from-k.ensures, omega arith),
   search rules,
 )
 
 pub returns : goal.returns
 returns c =
-    tied _ _ _ _ _ (omega arith) _ c.is_place.ensures c.if-not-is_place.false _ _ _ c.wide-top.ensures c.wide-k.ensures c.wide.ensures _ _
+    tied _ _ _ _ _ (omega arith) _ c.is_place.ensures c.if-not-is_place.false _ _ _ (c.from-top.ensures, omega arith) (c.from-k.ensures, omega arith) (c.from.ensures, omega arith) _ _
     c.unbind.ensures c.push.ensures

@@ -2,6 +2,7 @@
 -- Assumes nothing.
 use borrow.Author.Rules.{rules}
 use borrow.Author.Tests.{not-true}
+use native.Mathlib.Omega.{arith}
 use Rattle.channels.proofs.Tying.{top_covered, top_over, untied_short, untied}
 use Rattle.channels.proofs.ties.untie.Goals as goal
 
@@ -10,9 +11,9 @@ returns-then-not-is_place c = search (untied_short, not-true, rules)
 
 pub unbind-requires : goal.unbind-requires
 unbind-requires c = (
-  top_covered _ _ _ _ c.is_place.ensures c.if-not-is_place.false _ c.wide.ensures,
-  top_over _ _ _ _ c.is_place.ensures c.if-not-is_place.false _ c.wide.ensures _ c.wide-2.ensures,
+  top_covered _ _ _ _ c.is_place.ensures c.if-not-is_place.false _ (c.from.ensures, omega arith),
+  top_over _ _ _ _ c.is_place.ensures c.if-not-is_place.false _ (c.from.ensures, omega arith) _ (c.from-2.ensures, omega arith),
 )
 
 pub returns : goal.returns
-returns c = untied _ _ _ _ c.is_place.ensures c.if-not-is_place.false _ _ c.wide.ensures c.wide-2.ensures _ c.unbind.ensures
+returns c = untied _ _ _ _ c.is_place.ensures c.if-not-is_place.false _ _ (c.from.ensures, omega arith) (c.from-2.ensures, omega arith) _ c.unbind.ensures

@@ -8,4 +8,4 @@ pub returns-then-not-is_covered : goal.returns-then-not-is_covered
 returns-then-not-is_covered c = λ id. looks_uncovered _ _ _ c.is_covered.ensures (not-true _ c.if-not-is_covered.true-raw)
 
 pub returns : goal.returns
-returns c = λ id. looks_found _ _ _ c.is_covered.ensures (not-false _ c.if-not-is_covered.false-raw) c.tied_handle.result _ (c.tied_handle.ensures id) c.looked_up.ensures
+returns c = λ id. looks_found _ _ _ c.is_covered.ensures (not-false _ c.if-not-is_covered.false-raw) _ (c.tied_handle.ensures id)

@@ -1,11 +1,8 @@
 -- `bodiless`: one law for each case.
 -- Assumes nothing.
 use borrow.Author.Rules.{rules}
-use Rattle.connection.proofs.Reading.{bare_not, bare_empty, bare_body}
+use Rattle.connection.proofs.Reading.{bare_empty, bare_body}
 use Rattle.connection.proofs.receiving.bodiless.Goals as goal
-
-pub returns-in-Refused : goal.returns-in-Refused
-returns-in-Refused c = search (bare_not, rules)
 
 pub returns-in-Empty : goal.returns-in-Empty
 returns-in-Empty c = search (bare_empty, rules)

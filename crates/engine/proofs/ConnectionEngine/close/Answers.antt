@@ -11,7 +11,7 @@ gone_out-requires c = inside_drained _ _ _ _ _ _ _ _ c.send_waiting-waited.ensur
 
 pub returns-in_default : goal.returns-in_default
 returns-in_default c = (
-  order_stopped _ _ _ _ _ _ c.error_fine-fine.ensures _ c.frames_to_send-frames.ensures _ c.in-Are.is _ _ _ c.send_waiting-waited.ensures _ _ _ c.in_default.is c.gone_out.ensures,
+  order_stopped _ _ _ _ _ _ c.error_fine-fine.ensures _ c.frames_to_send-frames.ensures _ c.in-Ok.is _ _ _ c.send_waiting-waited.ensures _ _ _ c.in_default.is c.gone_out.ensures,
   gone_bare _ _ _ _ _ _ _ c.gone_out.ensures,
 )
 
@@ -21,17 +21,17 @@ slice_bounds-send_last-count c = inside_drained _ _ _ _ _ _ _ _ c.send_waiting-w
 pub slice_bounds-send_last-start : goal.slice_bounds-send_last-start
 slice_bounds-send_last-start c = inside_drained _ _ _ _ _ _ _ _ c.send_waiting-waited.ensures
 
-pub gone_out-requires-in-Are : goal.gone_out-requires-in-Are
-gone_out-requires-in-Are c =
+pub gone_out-requires-in-Ok : goal.gone_out-requires-in-Ok
+gone_out-requires-in-Ok c =
     let i = inside_drained _ _ _ _ _ _ _ _ c.send_waiting-waited.ensures in
     search (i, rules)
 
-pub returns-in-Refused : goal.returns-in-Refused
-returns-in-Refused c = search (order_refused, bare_not, rules)
+pub returns-in-Err : goal.returns-in-Err
+returns-in-Err c = search (order_refused, bare_not, rules)
 
-pub returns-in-Bytes : goal.returns-in-Bytes
-returns-in-Bytes c = (
-  order_sent _ _ _ _ _ _ c.error_fine-fine.ensures _ c.frames_to_send-frames.ensures _ c.in-Are.is _ _ _ c.send_waiting-waited.ensures _ _ c.out-in-Are-1.given.0 _ _ _
-      c.in-Bytes.is c.send_last-sent.ensures c.gone_out-in-Are.ensures,
-  gone_bare _ _ _ _ _ _ _ c.gone_out-in-Are.ensures,
+pub returns-in-Ok-answer : goal.returns-in-Ok-answer
+returns-in-Ok-answer c = (
+  order_sent _ _ _ _ _ _ c.error_fine-fine.ensures _ c.frames_to_send-frames.ensures _ c.in-Ok.is _ _ _ c.send_waiting-waited.ensures _ _ c.out-in-Ok-1.given.0 _ _ _
+      c.in-Ok-answer.is c.send_last-sent.ensures c.gone_out-in-Ok.ensures,
+  gone_bare _ _ _ _ _ _ _ c.gone_out-in-Ok.ensures,
 )

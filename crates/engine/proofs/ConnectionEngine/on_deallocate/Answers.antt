@@ -15,11 +15,11 @@ returns-then-is_ending c =
     let n = c.not_deallocated-then-is_ending.ensures in
     (deallocate_20 _ _ _ c.is_covered.ensures _ c.is_ending.ensures _ c.not_deallocated-then-is_ending.result c.if-not-is_covered.false-raw c.if-is_ending.true (n.0, n.2), search (bare_not, rules))
 
-pub returns-in-Refused : goal.returns-in-Refused
-returns-in-Refused c =
-    let n = c.not_deallocated-in-Refused.ensures in
-    (deallocate_refused _ _ _ c.is_covered.ensures _ c.is_ending.ensures _ _ _ _ _ c.not_deallocated-in-Refused.result c.if-not-is_covered.false-raw c.if-is_ending.false c.deallocate_session-freed.ensures c.in-Refused.is (n.0, n.2), search (bare_not, rules))
+pub returns-in-Err : goal.returns-in-Err
+returns-in-Err c =
+    let n = c.not_deallocated-in-Err.ensures in
+    (deallocate_refused _ _ _ c.is_covered.ensures _ c.is_ending.ensures _ _ _ _ _ c.not_deallocated-in-Err.result c.if-not-is_covered.false-raw c.if-is_ending.false c.deallocate_session-freed.ensures c.in-Err.is (n.0, n.2), search (bare_not, rules))
 
 pub returns : goal.returns
 returns c =
-    (deallocate_done _ _ _ c.is_covered.ensures _ c.is_ending.ensures _ c.deallocate_session-freed.result.answer _ _ _ _ c.if-not-is_covered.false-raw c.if-is_ending.false c.deallocate_session-freed.ensures c.in_default.in_default-own.keys2 c.settle-engine.ensures c.running.ensures, search (bare_on, rules))
+    (deallocate_done _ _ _ c.is_covered.ensures _ c.is_ending.ensures _ c.deallocate_session-freed.result.answer _ _ _ _ c.if-not-is_covered.false-raw c.if-is_ending.false c.deallocate_session-freed.ensures c.in_default.not-Err c.settle-engine.ensures c.running.ensures, search (bare_on, rules))

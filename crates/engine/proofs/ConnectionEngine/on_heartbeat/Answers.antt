@@ -11,10 +11,10 @@ returns-then-out-lt-OUTPUT_ROOM c = search (tick_9, bare_not, rules)
 pub returns-then-is_ending : goal.returns-then-is_ending
 returns-then-is_ending c = search (tick_20, bare_not, rules)
 
-pub returns-in-Refused : goal.returns-in-Refused
-returns-in-Refused c =
-    let n = c.no_heartbeat-in-Refused.ensures in
-    (tick_refused _ _ c.is_ending.ensures _ _ _ _ _ c.no_heartbeat-in-Refused.result c.if-is_ending.false c.tick-ticked.ensures c.in-Refused.is (n.0, n.1), search (bare_not, rules))
+pub returns-in-Err : goal.returns-in-Err
+returns-in-Err c =
+    let n = c.no_heartbeat-in-Err.ensures in
+    (tick_refused _ _ c.is_ending.ensures _ _ _ _ _ c.no_heartbeat-in-Err.result c.if-is_ending.false c.tick-ticked.ensures c.in-Err.is (n.0, n.1), search (bare_not, rules))
 
 pub returns : goal.returns
 returns c = search (tick_done, bare_on, rules)

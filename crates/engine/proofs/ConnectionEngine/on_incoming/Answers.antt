@@ -17,16 +17,16 @@ returns-then-is_stopped c = search (incoming_20, bare_not, rules)
 pub returns-then-lacks_bytes : goal.returns-then-lacks_bytes
 returns-then-lacks_bytes c = search (incoming_1, bare_not, rules)
 
-pub returns-in_default : goal.returns-in_default
-returns-in_default c = (
+pub returns-in-Err : goal.returns-in-Err
+returns-in-Err c = (
   incoming_waiting _ _ _ _ _ _ _ c.lacks_room.ensures c.if-lacks_room.false _ c.is_covered.ensures c.if-not-is_covered.false-raw _ c.is_stopped.ensures c.if-is_stopped.false _ c.reading_limit.ensures _ c.lacks_bytes.ensures
-      c.if-lacks_bytes.false c.session_frames-frames.result _ c.channel_max.ensures c.session_frames-frames.ensures c.not_taken-in_default.result _ (search rules) c.refusal_of.ensures (search rules),
+      c.if-lacks_bytes.false c.session_frames.result _ c.channel_max.ensures c.session_frames.ensures c.not_taken-in-Err.result _ c.in-Err.is (search rules),
   search (bare_not, rules),
 )
 
 pub returns : goal.returns
 returns c = (
   incoming_done _ _ _ _ _ _ _ c.lacks_room.ensures c.if-lacks_room.false _ c.is_covered.ensures c.if-not-is_covered.false-raw _ c.is_stopped.ensures c.if-is_stopped.false _ c.reading_limit.ensures _ c.lacks_bytes.ensures
-      c.if-lacks_bytes.false c.session_frames-frames.result _ c.channel_max.ensures c.session_frames-frames.ensures _ _ _ _ _ _ _ _ _ _ c.in-Are.is c.receive_frame-received.ensures c.lands-landed.ensures c.frame_size.ensures c.consumed_by.ensures c.taken.ensures,
+      c.if-lacks_bytes.false c.session_frames.result _ c.channel_max.ensures c.session_frames.ensures _ _ _ _ _ _ _ _ _ _ c.in-Ok.is c.receive_frame-received.ensures c.lands-landed.ensures c.frame_size.ensures c.consumed_by.ensures c.taken.ensures,
   search (bare_on, rules),
 )

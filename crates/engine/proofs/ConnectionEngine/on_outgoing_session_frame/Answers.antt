@@ -14,24 +14,24 @@ returns-then-not-is_covered c = search (outgoing_8, bare_not, rules)
 pub returns-then-is_ending : goal.returns-then-is_ending
 returns-then-is_ending c = search (outgoing_20, bare_not, rules)
 
-pub returns-then-k-lt20 : goal.returns-then-k-lt20
-returns-then-k-lt20 c = (
-  outgoing_input _ _ _ _ (search rules) _ c.is_covered.ensures c.if-not-is_covered.false-raw _ c.is_ending.ensures c.if-is_ending.false c.not_outgoing-then-k-lt20.result _ _ _ _ _
-      c.send_session_frame-sent.ensures c.in-Refused.is (search rules) (search rules),
+pub returns-then-is_of_input : goal.returns-then-is_of_input
+returns-then-is_of_input c = (
+  outgoing_input _ _ _ _ (search rules) _ c.is_covered.ensures c.if-not-is_covered.false-raw _ c.is_ending.ensures c.if-is_ending.false c.not_outgoing-then-is_of_input.result _ _ _ _ _ _
+      c.send_session_frame-sent.ensures c.in-Err.is c.is_of_input.ensures c.if-is_of_input.true (search rules),
   search (bare_not, rules),
 )
 
-pub returns-in-Bytes : goal.returns-in-Bytes
-returns-in-Bytes c = (
+pub returns-in-Ok : goal.returns-in-Ok
+returns-in-Ok c = (
   outgoing_done _ _ _ _ (search rules) _ c.is_covered.ensures c.if-not-is_covered.false-raw _ c.is_ending.ensures c.if-is_ending.false _ _ _ _ _ _ _
-      c.send_session_frame-sent.ensures c.in-Bytes.is c.settle-engine.ensures c.running.ensures,
+      c.send_session_frame-sent.ensures c.in-Ok.is c.settle-engine.ensures c.running.ensures,
   search (bare_on, rules),
 )
 
-pub returns-else-k-lt20 : goal.returns-else-k-lt20
-returns-else-k-lt20 c = (
-  outgoing_failing _ _ _ _ (search rules) _ c.is_covered.ensures c.if-not-is_covered.false-raw _ c.is_ending.ensures c.if-is_ending.false _ _ _ _ _ _ _
+pub returns-else-is_of_input : goal.returns-else-is_of_input
+returns-else-is_of_input c = (
+  outgoing_failing _ _ _ _ (search rules) _ c.is_covered.ensures c.if-not-is_covered.false-raw _ c.is_ending.ensures c.if-is_ending.false _ _ _ _ _ _ _ _
       c.outgoing_error.result _
-      c.send_session_frame-sent.ensures c.in-Refused.is (search rules) c.outgoing_error.ensures c.on_error-landed.ensures c.landed_out.ensures,
+      c.send_session_frame-sent.ensures c.in-Err.is c.is_of_input.ensures c.if-is_of_input.false c.outgoing_error.ensures c.on_error-landed.ensures c.landed_out.ensures,
   search (bare_landed, rules),
 )

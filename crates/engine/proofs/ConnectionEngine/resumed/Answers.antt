@@ -1,11 +1,8 @@
 -- `ConnectionEngine::resumed`: a phase that goes with the state, or none.
 -- Assumes nothing.
 use borrow.Author.Rules.{rules}
-use Rattle.engine.proofs.Phases.{resumed_fine, resumed_broken}
+use Rattle.engine.proofs.Phases.{resumed_kept}
 use Rattle.engine.proofs.ConnectionEngine.resumed.Goals as goal
 
-pub returns-then-goes_with : goal.returns-then-goes_with
-returns-then-goes_with c = search (resumed_fine, rules)
-
 pub returns : goal.returns
-returns c = search (resumed_broken, rules)
+returns c = search (resumed_kept, rules)

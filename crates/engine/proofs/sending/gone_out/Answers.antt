@@ -4,8 +4,8 @@ use borrow.Author.Rules.{rules}
 use Rattle.engine.proofs.Closing.{out_settles, out_fails}
 use Rattle.engine.proofs.sending.gone_out.Goals as goal
 
-pub returns-in-Bytes : goal.returns-in-Bytes
-returns-in-Bytes c = search (out_settles, rules)
+pub returns-in-Ok : goal.returns-in-Ok
+returns-in-Ok c = search (out_settles, rules)
 
-pub returns-in-Refused : goal.returns-in-Refused
-returns-in-Refused c = search (out_fails, rules)
+pub returns-in-Err : goal.returns-in-Err
+returns-in-Err c = search (out_fails, rules)

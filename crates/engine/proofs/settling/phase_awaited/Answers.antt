@@ -4,8 +4,8 @@ use borrow.Author.Rules.{rules}
 use Rattle.engine.proofs.Reading.{awaited_refused, awaited_closed, awaited_on}
 use Rattle.engine.proofs.settling.phase_awaited.Goals as goal
 
-pub returns-in-Refused : goal.returns-in-Refused
-returns-in-Refused c = search (awaited_refused, rules)
+pub returns-in-Err : goal.returns-in-Err
+returns-in-Err c = search (awaited_refused, rules)
 
 pub returns-in-Closed : goal.returns-in-Closed
 returns-in-Closed c = search (awaited_closed, rules)

@@ -4,8 +4,8 @@ use borrow.Author.Rules.{rules}
 use Rattle.hisproat.proofs.Telling.{freed_inner, unfreed_inner}
 use Rattle.hisproat.proofs.answers.deallocate_inner.Goals as goal
 
-pub returns-in-Freed : goal.returns-in-Freed
-returns-in-Freed c = search (freed_inner, rules)
+pub returns-in-Ok : goal.returns-in-Ok
+returns-in-Ok c = search (freed_inner, rules)
 
-pub returns-in-Refused : goal.returns-in-Refused
-returns-in-Refused c = search (unfreed_inner, rules)
+pub returns-in-Err : goal.returns-in-Err
+returns-in-Err c = search (unfreed_inner, rules)

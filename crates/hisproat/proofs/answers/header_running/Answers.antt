@@ -1,14 +1,11 @@
--- `header_running`: each answer of a header.
+-- `header_running`: taken, or refused.
 -- Assumes nothing.
 use borrow.Author.Rules.{rules}
-use Rattle.hisproat.proofs.Telling.{runs_amqp, runs_other, runs_not}
+use Rattle.hisproat.proofs.Telling.{runs_taken, runs_not}
 use Rattle.hisproat.proofs.answers.header_running.Goals as goal
 
-pub returns-in-Amqp : goal.returns-in-Amqp
-returns-in-Amqp c = search (runs_amqp, rules)
+pub returns-in-Ok : goal.returns-in-Ok
+returns-in-Ok c = search (runs_taken, rules)
 
-pub returns-in-OtherProtocol : goal.returns-in-OtherProtocol
-returns-in-OtherProtocol c = search (runs_other, rules)
-
-pub returns-in-Refused : goal.returns-in-Refused
-returns-in-Refused c = search (runs_not, rules)
+pub returns-in-Err : goal.returns-in-Err
+returns-in-Err c = search (runs_not, rules)

@@ -4,8 +4,8 @@ use borrow.Author.Rules.{rules}
 use Rattle.hisproat.proofs.Telling.{amounts_sent, amounts_unsent}
 use Rattle.hisproat.proofs.answers.opening_sent.Goals as goal
 
-pub returns-in-Bytes : goal.returns-in-Bytes
-returns-in-Bytes c = search (amounts_sent, rules)
+pub returns-in-Ok : goal.returns-in-Ok
+returns-in-Ok c = search (amounts_sent, rules)
 
-pub returns-in-Refused : goal.returns-in-Refused
-returns-in-Refused c = search (amounts_unsent, rules)
+pub returns-in-Err : goal.returns-in-Err
+returns-in-Err c = search (amounts_unsent, rules)

@@ -9,4 +9,4 @@ returns-then-answer-lt26 c = search (inner_short, rules)
 
 pub returns : goal.returns
 returns c =
-    inner_laid _ _ _ _ _ _ _ _ _ _ _ _ _ c.if-answer-lt26.false c.put_number.ensures c.put_number-2.ensures c.put_number-3.ensures c.put_number-4.ensures c.put_number-5.ensures c.put_number-6.ensures
+    inner_laid _ _ _ _ _ _ _ _ _ _ _ _ _ _ c.number.ensures c.if-answer-lt26.false c.put_number.ensures c.put_number-2.ensures c.put_number-3.ensures c.put_number-4.ensures c.put_number-5.ensures c.put_number-6.ensures

@@ -4,8 +4,8 @@ use borrow.Author.Rules.{rules}
 use Rattle.hisproat.proofs.Telling.{wrote_inner, unwritten_inner}
 use Rattle.hisproat.proofs.answers.written_inner.Goals as goal
 
-pub returns-in-Bytes : goal.returns-in-Bytes
-returns-in-Bytes c = search (wrote_inner, rules)
+pub returns-in-Ok : goal.returns-in-Ok
+returns-in-Ok c = search (wrote_inner, rules)
 
-pub returns-in-Refused : goal.returns-in-Refused
-returns-in-Refused c = search (unwritten_inner, rules)
+pub returns-in-Err : goal.returns-in-Err
+returns-in-Err c = search (unwritten_inner, rules)

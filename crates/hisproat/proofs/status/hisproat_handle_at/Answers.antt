@@ -5,18 +5,17 @@ use Rattle.hisproat.proofs.Readings.{reports_short, reports_broken, taken_told}
 use Rattle.hisproat.proofs.status.hisproat_handle_at.Goals as goal
 
 pub returns-then-answer-lt-HANDLE_SIZE : goal.returns-then-answer-lt-HANDLE_SIZE
-returns-then-answer-lt-HANDLE_SIZE c = reports_short _ _ _ _ c.if-answer-lt-HANDLE_SIZE.true
+returns-then-answer-lt-HANDLE_SIZE c = rw c.number.ensures (reports_short _ _ _ _ c.if-answer-lt-HANDLE_SIZE.true)
 
 pub returns-in_default : goal.returns-in_default
-returns-in_default c =
-    reports_broken _ _ _ _ c.if-answer-lt-HANDLE_SIZE.false _ c.from_bytes.ensures c.in_default.is
+returns-in_default c = rw c.number-in_default.ensures (reports_broken _ _ _ _ c.if-answer-lt-HANDLE_SIZE.false _ c.from_bytes.ensures c.in_default.is)
 
 pub slice_bounds-handle_at-count : goal.slice_bounds-handle_at-count
-slice_bounds-handle_at-count c = read_long _ _ c.from_bytes.ensures _ c.in-Is.is
+slice_bounds-handle_at-count c = read_long _ _ c.from_bytes.ensures _ c.in-Some.is
 
 pub slice_bounds-handle_at-start : goal.slice_bounds-handle_at-start
-slice_bounds-handle_at-start c = read_long _ _ c.from_bytes.ensures _ c.in-Is.is
+slice_bounds-handle_at-start c = read_long _ _ c.from_bytes.ensures _ c.in-Some.is
 
 pub returns : goal.returns
 returns c =
-    taken_told _ _ _ c.if-answer-lt-HANDLE_SIZE.false _ c.from_bytes.ensures _ c.in-Is.is _ c.connection-connection.ensures _ _ _ c.put_handle.ensures c.handle_at.ensures
+    taken_told _ _ _ c.if-answer-lt-HANDLE_SIZE.false _ c.from_bytes.ensures _ c.in-Some.is _ c.connection-connection.ensures _ _ _ c.put_handle.ensures c.handle_at.ensures

@@ -4,11 +4,11 @@ use borrow.Author.Rules.{rules}
 use Rattle.hisproat.proofs.Readings.{puts_there, puts_nothing, puts_refused}
 use Rattle.hisproat.proofs.status.put_handle.Goals as goal
 
-pub returns-in-Handle : goal.returns-in-Handle
-returns-in-Handle c = search (puts_there, rules)
+pub returns-in-Err : goal.returns-in-Err
+returns-in-Err c = search (puts_refused, rules)
 
-pub returns-in-Nothing : goal.returns-in-Nothing
-returns-in-Nothing c = search (puts_nothing, rules)
+pub returns-in-Some : goal.returns-in-Some
+returns-in-Some c = search (puts_there, rules)
 
-pub returns-in-Refused : goal.returns-in-Refused
-returns-in-Refused c = search (puts_refused, rules)
+pub returns-in-None : goal.returns-in-None
+returns-in-None c = search (puts_nothing, rules)

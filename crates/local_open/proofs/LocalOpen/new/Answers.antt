@@ -7,9 +7,6 @@ use Rattle.local_open.proofs.LocalOpen.new.Goals as goal
 
 ruleset steps = (answered_taken, answered_refused, not-true, not-false, rules)
 
-pub settings_ok-requires : goal.settings_ok-requires
-settings_ok-requires c = search steps
-
 pub returns-then-not-settings_ok : goal.returns-then-not-settings_ok
 returns-then-not-settings_ok c = search steps
 

@@ -9,14 +9,8 @@ ruleset steps = (described_not, list_from, described_malformed, from_fits, end_f
 pub descriptor_at-requires : goal.descriptor_at-requires
 descriptor_at-requires c = search steps
 
-pub enum_known-code : goal.enum_known-code
-enum_known-code c = search steps
-
-pub enum_told-1 : goal.enum_told-1
-enum_told-1 c = search steps
-
-pub returns-in_default : goal.returns-in_default
-returns-in_default c = search steps
+pub returns-in_err-code : goal.returns-in_err-code
+returns-in_err-code c = search steps
 
 pub slice_bounds-list_at-count : goal.slice_bounds-list_at-count
 slice_bounds-list_at-count c = search steps
@@ -30,14 +24,8 @@ slice_bounds-list_at-end c = search steps
 pub list_at-requires : goal.list_at-requires
 list_at-requires c = search steps
 
-pub enum_known-count : goal.enum_known-count
-enum_known-count c = search steps
-
-pub enum_told-in_default-list_at : goal.enum_told-in_default-list_at
-enum_told-in_default-list_at c = search steps
-
-pub returns-in_default-list_at : goal.returns-in_default-list_at
-returns-in_default-list_at c = search steps
+pub returns-in_err-count : goal.returns-in_err-count
+returns-in_err-count c = search steps
 
 pub overflow_add-result : goal.overflow_add-result
 overflow_add-result c = search steps

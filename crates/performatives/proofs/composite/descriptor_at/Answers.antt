@@ -31,14 +31,8 @@ returns-then-not-starts_with-2 c = search steps
 pub value_end-requires : goal.value_end-requires
 value_end-requires c = search steps
 
-pub enum_known-n : goal.enum_known-n
-enum_known-n c = search steps
-
-pub enum_told-1 : goal.enum_told-1
-enum_told-1 c = search steps
-
-pub returns-in_default : goal.returns-in_default
-returns-in_default c = search steps
+pub returns-in_err-n : goal.returns-in_err-n
+returns-in_err-n c = search steps
 
 pub slice_bounds-number-count : goal.slice_bounds-number-count
 slice_bounds-number-count c = search steps
@@ -56,4 +50,4 @@ pub overflow_add-result : goal.overflow_add-result
 overflow_add-result c = search steps
 
 pub returns : goal.returns
-returns c = search steps
+returns c = descriptor_is _ _ c.starts_with.ensures (search steps) _ c.starts_with-2.ensures (search steps) _ c.in_ok-n.ensures _ (search steps)

@@ -5,19 +5,13 @@ use Rattle.performatives.proofs.Typed.{items_ordered, items_inside}
 use Rattle.performatives.proofs.Placed.{condition_none, place_fits, text_given, condition_some}
 use Rattle.performatives.proofs.error.error_condition.Goals as goal
 
-ruleset steps = (items_ordered, items_inside, condition_none, place_fits, condition_some, rules)
+ruleset steps = (items_ordered, items_inside, condition_none, place_fits, rules)
 
 pub any_described-requires : goal.any_described-requires
 any_described-requires c = search steps
 
-pub enum_known-from : goal.enum_known-from
-enum_known-from c = search steps
-
-pub enum_told-1 : goal.enum_told-1
-enum_told-1 c = search steps
-
-pub returns-in_default : goal.returns-in_default
-returns-in_default c = search steps
+pub returns-in_err-list : goal.returns-in_err-list
+returns-in_err-list c = search steps
 
 pub slice_bounds-text-count : goal.slice_bounds-text-count
 slice_bounds-text-count c = search steps
@@ -33,7 +27,7 @@ overflow_add-at c = search steps
 
 pub text-requires : goal.text-requires
 text-requires c =
-    text_given _ _ _ c.any_described.ensures _ _ _ _ c.in-List.is c.requires
+    text_given _ _ _ _ _ _ c.in_ok-list.ensures c.requires
 
 pub returns : goal.returns
-returns c = search steps
+returns c = condition_some _ _ _ _ _ _ c.in_ok-list.ensures _ c.text.ensures

@@ -18,7 +18,7 @@ pub rows_of-word-requires : goal.rows_of-word-requires
 rows_of-word-requires c = search steps
 
 pub loop-i-init : goal.loop-i-init
-loop-i-init c = (omega arith, omega arith, left_first _ _ _, skip_none _, skip_none _, from_first _)
+loop-i-init c = (omega arith, left_first _ _ _, skip_none _, skip_none _, from_first _)
 
 pub end_at-end-requires : goal.end_at-end-requires
 end_at-end-requires c = search steps
@@ -40,25 +40,18 @@ suits-requires c = search steps
 
 pub returns-then-not-suits : goal.returns-then-not-suits
 returns-then-not-suits c =
-    last_none _ _ _ (fields_unfit _ _ _ _ _ c.loop-i.invariant.2 _ c.loop-i-test.true c.end_at-end.ensures c.if-end-eq0.false c.if-count-gt14.false _ _ c.rows_of-word.ensures c.loop-i.invariant.5 _ c.suits.ensures (not-true _ c.if-not-suits.true-raw))
-
-pub overflow_add-i : goal.overflow_add-i
-overflow_add-i c = search steps
-
-pub loop-i-smaller : goal.loop-i-smaller
-loop-i-smaller c = search steps
+    last_none _ _ _ (fields_unfit _ _ _ _ _ c.loop-i.invariant.1 _ c.loop-i-test.true c.end_at-end.ensures c.if-end-eq0.false c.if-count-gt14.false _ _ c.rows_of-word.ensures c.loop-i.invariant.4 _ c.suits.ensures (not-true _ c.if-not-suits.true-raw))
 
 pub loop-i-preserved : goal.loop-i-preserved
 loop-i-preserved c = (
-  omega arith,
   search steps,
   elim c.if-letter-ne-ANY.branch [
-    | then-letter-ne-ANY+else-not-suits w ↦ fields_fit _ _ _ _ _ c.loop-i.invariant.2 _ c.loop-i-test.true c.end_at-end.ensures c.if-end-eq0.false c.if-count-gt14.false _ _ c.rows_of-word.ensures c.loop-i.invariant.5 _ w.suits.ensures (not-false _ w.if-not-suits.false-raw)
+    | then-letter-ne-ANY+else-not-suits w ↦ fields_fit _ _ _ _ _ c.loop-i.invariant.1 _ c.loop-i-test.true c.end_at-end.ensures c.if-end-eq0.false c.if-count-gt14.false _ _ c.rows_of-word.ensures c.loop-i.invariant.4 _ w.suits.ensures (not-false _ w.if-not-suits.false-raw)
     | else-letter-ne-ANY w ↦ search steps
   ],
-  skip_next _ _ _ _ c.loop-i.invariant.3 (next_is _ _ _ c.end_at-end.ensures c.if-end-eq0.false),
-  skip_same _ _ _ c.loop-i.invariant.3,
-  from_next _ _ _ c.loop-i.invariant.5,
+  skip_next _ _ _ _ c.loop-i.invariant.2 (next_is _ _ _ c.end_at-end.ensures c.if-end-eq0.false),
+  skip_same _ _ _ c.loop-i.invariant.2,
+  from_next _ _ _ c.loop-i.invariant.4,
 )
 
 pub returns-then-count-word : goal.returns-then-count-word

@@ -9,7 +9,4 @@ use Rattle.performatives.proofs.Rows.{From, Left}
 use Rattle.performatives.proofs.fields.fields.Given as goal
 
 abbrev pub invariant-loop-i : goal.invariant-loop-i
-invariant-loop-i l = (l.i ≤ l.count) × (l.at ≤ length l.s) × Left l.code l.count l.s l.i l.at × (l.at ≡ skip l.i l.s) × (l.last ≡ skip (l.i - 1) l.s) × From l.word l.i l.rows
-
-abbrev pub decreases-loop-i : goal.decreases-loop-i
-decreases-loop-i l = l.count - l.i
+invariant-loop-i l = (l.at ≤ length l.s) × Left l.code l.count l.s l._i l.at × (l.at ≡ skip l._i l.s) × (l.last ≡ skip (l._i - 1) l.s) × From l.word l._i l.rows

@@ -9,12 +9,6 @@ ruleset steps = (suits_past, suits_row, rules)
 pub row_named-requires : goal.row_named-requires
 row_named-requires c = search steps
 
-pub enum_known-kind : goal.enum_known-kind
-enum_known-kind c = search steps
-
-pub enum_told-1 : goal.enum_told-1
-enum_told-1 c = search steps
-
 pub returns-in_default : goal.returns-in_default
 returns-in_default c = search steps
 
@@ -22,4 +16,4 @@ pub fits-requires : goal.fits-requires
 fits-requires c = search steps
 
 pub returns : goal.returns
-returns c = search steps
+returns c = suits_row _ _ _ _ _ _ c.in-Some.ensures c.fits.ensures

@@ -15,14 +15,8 @@ returns-then-count-eq0 t c = search steps
 pub value_end-requires : goal.value_end-requires
 value_end-requires t c = search steps
 
-pub enum_known-n : goal.enum_known-n
-enum_known-n t c = search steps
-
-pub enum_told-1 : goal.enum_told-1
-enum_told-1 t c = search steps
-
-pub returns-in_default : goal.returns-in_default
-returns-in_default t c = search steps
+pub returns-in_err-n : goal.returns-in_err-n
+returns-in_err-n t c = search steps
 
 pub slice_bounds-trim_values-count : goal.slice_bounds-trim_values-count
 slice_bounds-trim_values-count t c = search steps
@@ -39,14 +33,8 @@ overflow_sub-count t c = search steps
 pub trim_values-requires : goal.trim_values-requires
 trim_values-requires t c = search steps
 
-pub enum_known-rest : goal.enum_known-rest
-enum_known-rest t c = search steps
-
-pub enum_told-in_default-trim_values : goal.enum_told-in_default-trim_values
-enum_told-in_default-trim_values t c = search steps
-
-pub returns-in_default-trim_values : goal.returns-in_default-trim_values
-returns-in_default-trim_values t c = search steps
+pub returns-in_err-rest : goal.returns-in_err-rest
+returns-in_err-rest t c = search steps
 
 pub is_null-requires : goal.is_null-requires
 is_null-requires t c = search steps
@@ -55,4 +43,4 @@ pub before-requires : goal.before-requires
 before-requires t c = search steps
 
 pub returns : goal.returns
-returns t c = search steps
+returns t c = values_kept _ _ c.if-count-eq0.false _ c.in_ok-n.ensures _ c.in_ok-rest.ensures _ _ c.is_null.ensures c.before-2.ensures

@@ -10,14 +10,8 @@ ruleset steps = (value_in, parts_none, items_from_lem, items_end, count_some, pa
 pub described_list-requires : goal.described_list-requires
 described_list-requires c = search steps
 
-pub enum_known-count : goal.enum_known-count
-enum_known-count c = search steps
-
-pub enum_told-1 : goal.enum_told-1
-enum_told-1 c = search steps
-
-pub returns-in_default : goal.returns-in_default
-returns-in_default c = search steps
+pub returns-in_err-list : goal.returns-in_err-list
+returns-in_err-list c = search steps
 
 pub slice_bounds-items-count : goal.slice_bounds-items-count
 slice_bounds-items-count c = search steps
@@ -31,14 +25,8 @@ slice_bounds-items-end c = search steps
 pub value_end-requires : goal.value_end-requires
 value_end-requires c = search steps
 
-pub enum_known-n : goal.enum_known-n
-enum_known-n c = search steps
-
-pub enum_told-in_default-value_end : goal.enum_told-in_default-value_end
-enum_told-in_default-value_end c = search steps
-
-pub returns-in_default-value_end : goal.returns-in_default-value_end
-returns-in_default-value_end c = search steps
+pub returns-in_err-n : goal.returns-in_err-n
+returns-in_err-n c = search steps
 
 pub slice_bounds-trim_values-count : goal.slice_bounds-trim_values-count
 slice_bounds-trim_values-count c = search steps
@@ -49,23 +37,17 @@ slice_bounds-trim_values-start c = search steps
 pub slice_bounds-trim_values-end : goal.slice_bounds-trim_values-end
 slice_bounds-trim_values-end c = search steps
 
-pub overflow_sub-count : goal.overflow_sub-count
-overflow_sub-count c = search steps
+pub overflow_sub-list : goal.overflow_sub-list
+overflow_sub-list c = search steps
 
 pub trim_values-requires : goal.trim_values-requires
 trim_values-requires c = search steps
 
-pub enum_known-rest : goal.enum_known-rest
-enum_known-rest c = search steps
-
-pub enum_told-in_default-trim_values : goal.enum_told-in_default-trim_values
-enum_told-in_default-trim_values c = search steps
-
-pub returns-in_default-trim_values : goal.returns-in_default-trim_values
-returns-in_default-trim_values c = search steps
+pub returns-in_err-rest : goal.returns-in_err-rest
+returns-in_err-rest c = search steps
 
 pub overflow_add-result : goal.overflow_add-result
 overflow_add-result c = search steps
 
 pub returns : goal.returns
-returns c = search steps
+returns c = parts_are _ _ _ _ _ c.in_ok-list.ensures c.requires _ c.in_ok-n.ensures _ c.in_ok-rest.ensures

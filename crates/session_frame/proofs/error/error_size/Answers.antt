@@ -9,23 +9,14 @@ ruleset steps = (error_null, parts_from, parts_end, parts_count, error_fits, err
 pub error_parts-requires : goal.error_parts-requires
 error_parts-requires c = search steps
 
-pub enum_known-from : goal.enum_known-from
-enum_known-from c = search steps
-
-pub enum_told-1 : goal.enum_told-1
-enum_told-1 c = search steps
-
 pub returns-in_default : goal.returns-in_default
 returns-in_default c = search steps
 
 pub parts_len-size-requires : goal.parts_len-size-requires
 parts_len-size-requires c = search steps
 
-pub overflow_add-count : goal.overflow_add-count
-overflow_add-count c = search steps
-
-pub header_len-requires : goal.header_len-requires
-header_len-requires c = search steps
+pub overflow_add-parts : goal.overflow_add-parts
+overflow_add-parts c = search steps
 
 pub overflow_add-result : goal.overflow_add-result
 overflow_add-result c = search steps

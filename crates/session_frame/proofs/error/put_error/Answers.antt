@@ -9,12 +9,6 @@ ruleset steps = (error_null_laid, parts_from, parts_end, parts_count, parts_few,
 pub error_parts-requires : goal.error_parts-requires
 error_parts-requires c = search steps
 
-pub enum_known-from : goal.enum_known-from
-enum_known-from c = search steps
-
-pub enum_told-1 : goal.enum_told-1
-enum_told-1 c = search steps
-
 pub put_null-requires : goal.put_null-requires
 put_null-requires c = search steps
 
@@ -30,20 +24,14 @@ parts_len-size-requires c = search steps
 pub overflow_add-count : goal.overflow_add-count
 overflow_add-count c = search steps
 
-pub header_len-requires : goal.header_len-requires
-header_len-requires c = search steps
-
 pub overflow_add-start : goal.overflow_add-start
 overflow_add-start c = search steps
-
-pub overflow_add-count-2 : goal.overflow_add-count-2
-overflow_add-count-2 c = search steps
 
 pub overflow_cast-count : goal.overflow_cast-count
 overflow_cast-count c = search steps
 
 pub overflow_cast-size : goal.overflow_cast-size
-overflow_cast-size c = search steps
+overflow_cast-size c = size_low _ _ c.in-Some.ensures _ c.parts_len-size.ensures _ c.composite_header_len.ensures.0 _ _ c.requires.1
 
 pub put_composite_header-requires : goal.put_composite_header-requires
 put_composite_header-requires c = search steps
@@ -55,4 +43,4 @@ pub shape_of-out : goal.shape_of-out
 shape_of-out c = search steps
 
 pub returns : goal.returns
-returns c = search steps
+returns c = error_laid _ _ c.in-Some.ensures _ c.parts_len-size.ensures _ c.composite_header_len.ensures.0 _ _ c.requires.1 _ c.put_composite_header.ensures _ c.put_parts.ensures

@@ -27,8 +27,8 @@ overflow_add-next c = search steps
 pub put_text-requires : goal.put_text-requires
 put_text-requires c = search steps
 
-pub overflow_add-end : goal.overflow_add-end
-overflow_add-end c = search steps
+pub overflow_add-parts : goal.overflow_add-parts
+overflow_add-parts c = search steps
 
 pub slice_bounds-copy-count : goal.slice_bounds-copy-count
 slice_bounds-copy-count c = search steps

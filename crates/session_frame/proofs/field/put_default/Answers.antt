@@ -6,12 +6,6 @@ use Rattle.session_frame.proofs.field.put_default.Goals as goal
 
 ruleset steps = (put_default_null, put_default_any, put_default_string, put_default_error, put_default_ushort, put_default_uint, rules)
 
-pub enum_known-default : goal.enum_known-default
-enum_known-default c = search steps
-
-pub enum_told-1 : goal.enum_told-1
-enum_told-1 c = search steps
-
 pub put_null-requires : goal.put_null-requires
 put_null-requires c = search steps
 
@@ -21,14 +15,8 @@ shape_of-out-in_default c = search steps
 pub returns-in_default : goal.returns-in_default
 returns-in_default c = search steps
 
-pub enum_told-in-Any : goal.enum_told-in-Any
-enum_told-in-Any c = search steps
-
 pub put_null-requires-in-Any : goal.put_null-requires-in-Any
 put_null-requires-in-Any c = search steps
-
-pub enum_told-in-UShort : goal.enum_told-in-UShort
-enum_told-in-UShort c = search steps
 
 pub overflow_cast-n : goal.overflow_cast-n
 overflow_cast-n c = search steps
@@ -36,20 +24,11 @@ overflow_cast-n c = search steps
 pub put_ushort-requires : goal.put_ushort-requires
 put_ushort-requires c = search steps
 
-pub enum_told-in-UInt : goal.enum_told-in-UInt
-enum_told-in-UInt c = search steps
-
 pub put_uint-requires : goal.put_uint-requires
 put_uint-requires c = search steps
 
-pub enum_told-in-String : goal.enum_told-in-String
-enum_told-in-String c = search steps
-
 pub put_null-requires-in-String : goal.put_null-requires-in-String
 put_null-requires-in-String c = search steps
-
-pub enum_told-in-Error : goal.enum_told-in-Error
-enum_told-in-Error c = search steps
 
 pub put_null-requires-in-Error : goal.put_null-requires-in-Error
 put_null-requires-in-Error c = search steps

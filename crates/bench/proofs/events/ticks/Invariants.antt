@@ -1,5 +1,0 @@
--- `ticks` is safe and ends: the rounds that are left fall.
-use Rattle.bench.proofs.events.ticks.Given as goal
-
-abbrev pub decreases-loop-left : goal.decreases-loop-left
-decreases-loop-left l = l.left

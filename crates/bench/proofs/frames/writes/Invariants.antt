@@ -1,5 +1,0 @@
--- `writes` is safe and ends: the rounds that are left fall.
-use Rattle.bench.proofs.frames.writes.Given as goal
-
-abbrev pub decreases-loop-left : goal.decreases-loop-left
-decreases-loop-left l = l.left

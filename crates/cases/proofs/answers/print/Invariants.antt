@@ -1,6 +1,0 @@
--- `print` is safe and ends.
-use Rattle.std.proofs.Common.{◌-◌}
-use Rattle.cases.proofs.answers.print.Given as goal
-
-abbrev pub decreases-loop-i : goal.decreases-loop-i
-decreases-loop-i g l = 10 - l.i

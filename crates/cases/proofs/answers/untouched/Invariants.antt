@@ -1,6 +1,0 @@
--- `untouched` is safe and ends.
-use Rattle.std.proofs.Common.{length, ◌-◌}
-use Rattle.cases.proofs.answers.untouched.Given as goal
-
-abbrev pub decreases-loop-i : goal.decreases-loop-i
-decreases-loop-i l = length l.out - l.i
