@@ -23,9 +23,6 @@ use engine::ConnectionEngine;
 use operations::{Operation, Room};
 use std::io::{self, Read};
 
-// How many bytes of input are read.
-const MOST: u64 = 4096;
-
 // The last channel, where there are n sessions.
 fn last_channel(n: u64) -> u16 {
     (n.clamp(1, 2048) - 1) as u16
@@ -93,9 +90,10 @@ fn run(line: &[u8], room: &mut Room<'_>) -> u64 {
 }
 
 fn main(rt: HostRuntime) -> io::Result<()> {
-    let mut text = Vec::new(rt.alloc());
-    rt.stdin().take(MOST).read_to_end(&mut text)?;
-    // Arrays, whose length the compiler knows: with a Vec a round of `write` takes two fifths more instructions.
+    // Arrays: the program allocates nothing. Besides, their length is known to the compiler: with a Vec a round of `write` takes two fifths more instructions.
+    let mut bytes = [0u8; 4096];
+    let n = io::copy(&mut rt.stdin().take(4096), &mut &mut bytes[..])? as usize;
+    let text = bytes.get(..n).unwrap_or_default();
     let mut tables = [0u8; 65536];
     let mut out = [0u8; 65536];
     for ended in text.split_inclusive(|b| *b == b'\n') {

@@ -1,12 +1,14 @@
 // Answers, the words that they are written in, and when these are the words expected.
-use crate::spelling::is_number;
+use crate::spelling::{Words, is_number};
 use frame_decoder::Frame;
 use octets::Refusal;
 use performatives::{Body, Condition, Performative};
 use protocol_header::{HeaderRead, ProtocolHeader};
-use std::alloc::Global;
 use std::fmt;
 use std::io::{self, Write};
+
+// How many words an answer has at most.
+const MOST_WORDS: usize = 10;
 
 // What a case is answered. The last three are no answer that a case expects.
 #[derive(Clone, Copy, Drop)]
@@ -26,15 +28,13 @@ pub(crate) enum Answer {
 }
 
 impl Answer {
-    // The answer's words. The last one is that of the bytes which the case expects to be written, where they were.
-    pub(crate) fn text(&self, alloc: Global, word: &[u8]) -> io::Result<Vec<u8>> {
-        let mut text = Vec::new(alloc);
-        write!(text, "{self}")?;
-        if let Answer::Wrote = *self {
-            text.push(b' ')?;
-            text.extend_from_slice(word)?;
-        }
-        Ok(text)
+    // The answer's words, laid into a room: none is longer than 20 letters. After `wrote` comes the word of the bytes that the case expects to be written.
+    pub(crate) fn text<'a>(&self, room: &'a mut [u8; 256]) -> io::Result<&'a [u8]> {
+        let mut rest = &mut room[..];
+        write!(rest, "{self}")?;
+        let left = rest.len();
+        let n = room.len().saturating_sub(left);
+        Ok(room.get(..n).unwrap_or_default())
     }
 }
 
@@ -145,16 +145,38 @@ fn meaning(word: &[u8]) -> u64 {
     }
 }
 
-// Whether an answer's words are those wanted.
-pub(crate) fn agree(words: &[&[u8]], wanted: &[&[u8]]) -> bool {
-    words
-        .iter()
-        .map(|word| meaning(word))
-        .eq(wanted.iter().map(|word| meaning(word)))
+// Whether an answer's words, those of its text and then of the bytes written, are those wanted.
+pub(crate) fn agree<'a>(text: &'a [u8], written: &'a [u8], wanted: &[u8]) -> bool {
+    let mut words = Words::of(text);
+    let mut last = Words::of(written);
+    let mut wanted = Words::of(wanted);
+    for _ in 0..=MOST_WORDS {
+        let word = match words.next() {
+            Some(word) => Some(word),
+            None => last.next(),
+        };
+        match (word, wanted.next()) {
+            (None, None) => return true,
+            (Some(word), Some(other)) if meaning(word) == meaning(other) => {}
+            _ => return false,
+        }
+    }
+    false
+}
+
+// Prints words of an answer.
+pub(crate) fn print_words(rt: &impl Print, text: &[u8]) -> io::Result<()> {
+    let mut words = Words::of(text);
+    for _ in 0..MOST_WORDS {
+        if let Some(word) = words.next() {
+            print_word(rt, word)?;
+        }
+    }
+    Ok(())
 }
 
 // Prints a word of an answer as what it stands for, after a blank.
-pub(crate) fn print_word(rt: &impl Print, word: &[u8]) -> io::Result<()> {
+fn print_word(rt: &impl Print, word: &[u8]) -> io::Result<()> {
     let meant = meaning(word);
     if meant < LETTERS {
         return print!(rt; " {meant}");

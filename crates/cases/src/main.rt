@@ -28,11 +28,15 @@ mod output;
 mod spelling;
 
 use answers::Answer;
-use case::{Case, LineError};
+use case::Case;
+use output::Rooms;
 use std::io::{self, Read};
 
-// How many bytes of input are read.
-const MOST: u64 = 1_048_576;
+// How many bytes of input are read, and how many a line has at most, spelled out.
+const MOST: usize = 1_048_576;
+
+// The bytes that the words of a case say: 65,536 at most, and 4,096 of a description.
+const MOST_SAID: usize = 69_632;
 
 // The expected answer of a line: what stands between the first `=` and the first `;`.
 fn wanted_in(line: &[u8]) -> &[u8] {
@@ -45,25 +49,30 @@ fn wanted_in(line: &[u8]) -> &[u8] {
 }
 
 // Runs the case of a line, with its bytes spelled out, and says whether it went right.
-fn is_right(rt: &(impl Print + AllocGlobal), number: usize, line: &[u8]) -> io::Result<bool> {
-    let alloc = rt.alloc();
+fn is_right(
+    rt: &impl Print,
+    number: usize,
+    line: &[u8],
+    said: &mut [u8],
+    rooms: &mut Rooms,
+) -> io::Result<bool> {
     let wanted = wanted_in(line);
-    let wanted_words = spelling::words(alloc, wanted)?;
-    let word = wanted_words.get(1).copied().unwrap_or_default();
-    let answer = match Case::parse(alloc, line) {
-        Ok(case) => case.answer(rt, word)?,
-        Err(LineError::Bad) => Answer::BadLine,
-        Err(LineError::Memory(error)) => return Err(io::Error::from(error)),
+    let answer = match Case::parse(line, said) {
+        Some(case) => case.answer(rt, wanted, rooms)?,
+        None => Answer::BadLine,
     };
-    let text = answer.text(alloc, word)?;
-    let words = spelling::words(alloc, &text)?;
-    if answers::agree(&words, &wanted_words) {
+    let mut room = [0; 256];
+    let text = answer.text(&mut room)?;
+    let written = match answer {
+        Answer::Wrote => words::word(wanted, 1),
+        _ => &[],
+    };
+    if answers::agree(text, written, wanted) {
         return Ok(true);
     }
     print!(rt; "line {number}: got")?;
-    for word in words.iter() {
-        answers::print_word(rt, word)?;
-    }
+    answers::print_words(rt, text)?;
+    answers::print_words(rt, written)?;
     // as bytes, since what is wanted need be no text
     rt.write_all(b" and wanted")?;
     rt.write_all(wanted)?;
@@ -71,21 +80,49 @@ fn is_right(rt: &(impl Print + AllocGlobal), number: usize, line: &[u8]) -> io::
     Ok(false)
 }
 
-fn main(rt: HostRuntime) -> io::Result<()> {
-    let alloc = rt.alloc();
-    let mut text = Vec::new(alloc);
-    let read = rt.stdin().take(MOST).read_to_end(&mut text)?;
-    let mut outcomes = Vec::new(alloc);
+// Runs the cases of a text, and says how many there were, and how many of them went wrong.
+fn run_lines(
+    rt: &impl Print,
+    text: &[u8],
+    spelled: &mut [u8],
+    said: &mut [u8],
+    rooms: &mut Rooms,
+) -> io::Result<(u64, u64)> {
+    let mut run: u64 = 0;
+    let mut wrong: u64 = 0;
     for (i, line) in text.split(|b| *b == b'\n').enumerate() {
         if !line.is_empty() && !line.starts_with(b"#") {
-            let spelled = spelling::spelled(alloc, line)?;
-            outcomes.push(is_right(&rt, i + 1, &spelled)?)?;
+            let length = spelling::spelled(line, spelled);
+            let line = spelled.get(..length).unwrap_or_default();
+            run = run.wrapping_add(1);
+            if !is_right(rt, i + 1, line, said, rooms)? {
+                wrong = wrong.wrapping_add(1);
+            }
         }
     }
-    if read as u64 == MOST {
+    Ok((run, wrong))
+}
+
+// Room for so many bytes.
+fn room<const N: usize>() -> [u8; N] {
+    [0; N]
+}
+
+// Reads as much of the input as there is room for, and says how much that is.
+fn read_text(rt: &HostRuntime, text: &mut [u8]) -> io::Result<usize> {
+    Ok(io::copy(&mut rt.stdin().take(MOST as u64), &mut &mut text[..])? as usize)
+}
+
+fn main(rt: HostRuntime) -> io::Result<()> {
+    let mut text = room::<MOST>();
+    let n = read_text(&rt, &mut text)?;
+    let text = text.get(..n).unwrap_or_default();
+    let mut spelled = room::<MOST>();
+    let mut said = room::<MOST_SAID>();
+    let mut rooms = Rooms::new();
+    let (run, wrong) = run_lines(&rt, text, &mut spelled, &mut said, &mut rooms)?;
+    if n == MOST {
         println!(rt; "cases: only the first 1048576 bytes were read")?;
     }
-    let run = outcomes.len();
-    let wrong = outcomes.iter().filter(|right| !**right).count();
     println!(rt; "cases: {run} run, {wrong} wrong")
 }

@@ -1,66 +1,79 @@
 // The cases that write: what is written, and how it is compared with what is expected.
 use crate::answers::Answer;
-use crate::case::{Fields, LineError};
-use crate::spelling;
+use crate::case::Fields;
 use frame_encoder::{ErrorText, Settings};
 use octets::Refusal;
 use std::io;
 
-#[derive(Drop)]
-pub(crate) enum Output {
+#[derive(Clone, Copy, Drop)]
+pub(crate) enum Output<'a> {
     Open {
         max_frame_size: u32,
         channel_max: u16,
         idle_time_out: Option<u32>,
-        container_id: Vec<u8>,
+        container_id: &'a [u8],
     },
     Close,
     CloseWithError {
-        condition: Vec<u8>,
-        description: Option<Vec<u8>>,
+        condition: &'a [u8],
+        description: Option<&'a [u8]>,
     },
     Empty,
     SessionFrame {
         highest: u16,
-        frame: Vec<u8>,
+        frame: &'a [u8],
     },
 }
 
-// The byte of the pattern at a place.
-fn patterned(i: usize) -> u8 {
-    (i % 251) as u8
+// The most bytes that are lent, and that a case expects to be written.
+const MOST: usize = 65536;
+
+// The output that is lent, and beside it the pattern that it held, and then the bytes that the case expects.
+#[derive(Drop)]
+pub(crate) struct Rooms {
+    out: [u8; MOST],
+    beside: [u8; MOST],
 }
 
-// Whether the pattern stands from a place on.
-fn is_untouched(out: &[u8], from: usize) -> bool {
-    out.iter()
-        .enumerate()
-        .skip(from)
-        .all(|(i, b)| *b == patterned(i))
+impl Rooms {
+    pub(crate) fn new() -> Self {
+        Rooms {
+            out: [0; MOST],
+            beside: [0; MOST],
+        }
+    }
 }
 
-fn idle_time_out(fields: &mut Fields<'_>) -> Result<Option<u32>, LineError> {
+// Fills a lent output with the pattern.
+fn fill(out: &mut [u8]) {
+    for chunk in out.chunks_mut(251) {
+        for (i, b) in chunk.iter_mut().enumerate() {
+            *b = i as u8;
+        }
+    }
+}
+
+fn idle_time_out(fields: &mut Fields<'_>) -> Option<Option<u32>> {
     let given = fields.number(u64::MAX)?;
     let millis = fields.number(u32::MAX)?;
-    Ok((given != 0).then_some(millis))
+    Some((given != 0).then_some(millis))
 }
 
-impl Output {
+impl<'a> Output<'a> {
     // What comes after the room and the limit.
-    pub(crate) fn read(letter: u8, fields: &mut Fields<'_>) -> Result<Self, LineError> {
-        Ok(match letter {
+    pub(crate) fn read(letter: u8, fields: &mut Fields<'a>) -> Option<Self> {
+        Some(match letter {
             b'o' => Output::Open {
                 max_frame_size: fields.number(u32::MAX)?,
                 channel_max: fields.number(u16::MAX)?,
                 idle_time_out: idle_time_out(fields)?,
-                container_id: fields.bytes()?,
+                container_id: fields.bytes(MOST)?,
             },
             b'c' => Output::Close,
             b'e' => {
                 let described = fields.number(u64::MAX)? != 0;
-                let condition = fields.bytes()?;
-                let mut description = fields.bytes()?;
-                description.truncate(4096);
+                let condition = fields.bytes(MOST)?;
+                let description = fields.bytes(4096)?;
                 Output::CloseWithError {
                     condition,
                     description: described.then_some(description),
@@ -69,14 +82,14 @@ impl Output {
             b't' => Output::Empty,
             b'w' => Output::SessionFrame {
                 highest: fields.number(u16::MAX)?,
-                frame: fields.bytes()?,
+                frame: fields.bytes(MOST)?,
             },
-            _ => return Err(LineError::Bad),
+            _ => return None,
         })
     }
 
     fn write(&self, limit: u32, out: &mut [u8]) -> Result<usize, Refusal> {
-        match self {
+        match *self {
             Output::Open {
                 max_frame_size,
                 channel_max,
@@ -85,9 +98,9 @@ impl Output {
             } => {
                 let settings = Settings {
                     container_id,
-                    max_frame_size: *max_frame_size,
-                    channel_max: *channel_max,
-                    idle_time_out: *idle_time_out,
+                    max_frame_size,
+                    channel_max,
+                    idle_time_out,
                 };
                 frame_encoder::write_open(&settings, limit, out)
             }
@@ -98,37 +111,43 @@ impl Output {
             } => {
                 let error = ErrorText {
                     condition,
-                    description: description.as_deref(),
+                    description,
                 };
                 frame_encoder::write_close_with_error(&error, limit, out)
             }
             Output::Empty => frame_encoder::write_empty(limit, out),
             Output::SessionFrame { highest, frame } => {
-                session_frame::write(frame, *highest, limit, out)
+                session_frame::write(frame, highest, limit, out)
             }
         }
     }
 
-    // Writes to a lent output that holds the pattern, and compares what was written with the bytes that a word says.
+    // Writes to a lent output that holds the pattern, and compares what was written with the bytes that the wanted answer says.
     pub(crate) fn answer(
         &self,
-        rt: &(impl Print + AllocGlobal),
+        rt: &impl Print,
         room: usize,
         limit: u32,
-        word: &[u8],
+        wanted: &[u8],
+        rooms: &mut Rooms,
     ) -> io::Result<Answer> {
-        let mut out: Vec<u8> = (0..room).map(patterned).collect(rt.alloc())?;
-        let n = match self.write(limit, &mut out) {
+        let (Some(out), Some(pattern)) = (rooms.out.get_mut(..room), rooms.beside.get_mut(..room))
+        else {
+            return Ok(Answer::BadLine);
+        };
+        fill(out);
+        fill(pattern);
+        let n = match self.write(limit, out) {
             Ok(n) => n,
-            Err(refusal) if is_untouched(&out, 0) => return Ok(Answer::Refused(refusal)),
+            Err(refusal) if *out == *pattern => return Ok(Answer::Refused(refusal)),
             Err(refusal) => return Ok(Answer::Touched(usize::from(refusal.number()))),
         };
-        if !is_untouched(&out, n) {
+        if out.get(n..) != pattern.get(n..) {
             return Ok(Answer::Touched(n));
         }
-        let written = out.get(..n).unwrap_or(&out);
-        let expected = spelling::bytes(rt.alloc(), word, 65536)?;
-        if written == expected.as_slice() {
+        let written = out.get(..n).unwrap_or(out);
+        let length = words::hex(words::word(wanted, 1), &mut rooms.beside);
+        if written == rooms.beside.get(..length).unwrap_or_default() {
             return Ok(Answer::Wrote);
         }
         for byte in written {

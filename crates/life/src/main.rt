@@ -15,24 +15,28 @@ mod side;
 use side::Side;
 use std::io::{self, Read};
 
-// How many bytes of a script are read.
-const MOST: u64 = 65536;
-
 // The calls of a script, whose lines each end with a newline.
-fn play(rt: &(impl Print + AllocGlobal), script: &[u8]) -> io::Result<()> {
-    let Some(mut pad) = Side::new(rt.alloc())? else {
+fn play(rt: &impl Print, script: &[u8]) -> io::Result<()> {
+    // Arrays, here and in main: the program allocates nothing.
+    let mut pad_tables = [0u8; 65536];
+    let mut pad_out = [0u8; 65536];
+    let Ok(mut pad) = Side::new(&mut pad_tables, &mut pad_out) else {
         return Ok(());
     };
-    let Some(mut hub) = Side::new(rt.alloc())? else {
+    let mut hub_tables = [0u8; 65536];
+    let mut hub_out = [0u8; 65536];
+    let Ok(mut hub) = Side::new(&mut hub_tables, &mut hub_out) else {
         return Ok(());
     };
+    // the bytes that a line says
+    let mut said = [0u8; 8192];
     for ended in script.split_inclusive(|b| *b == b'\n') {
         let Some(line) = ended.strip_suffix(b"\n") else {
             break;
         };
         match line.first() {
-            Some(b'p') => pad.call(rt, line, &hub)?,
-            Some(b'h') => hub.call(rt, line, &pad)?,
+            Some(b'p') => pad.call(rt, line, &hub, &mut said)?,
+            Some(b'h') => hub.call(rt, line, &pad, &mut said)?,
             // a title, as bytes, since it need be no text
             _ => rt.write_all(ended)?,
         }
@@ -41,8 +45,8 @@ fn play(rt: &(impl Print + AllocGlobal), script: &[u8]) -> io::Result<()> {
 }
 
 fn main(rt: HostRuntime) -> io::Result<()> {
-    let mut script = Vec::new(rt.alloc());
-    rt.stdin().take(MOST).read_to_end(&mut script)?;
+    let mut script = [0u8; 65536];
+    let n = io::copy(&mut rt.stdin().take(65536), &mut &mut script[..])? as usize;
     println!(rt; "side  call                    state after     lent: answer")?;
-    play(&rt, &script)
+    play(&rt, script.get(..n).unwrap_or_default())
 }

@@ -6,15 +6,14 @@ use connection::{Connection, Sent};
 use endpoint::Role;
 use frame_encoder::{ErrorText, Settings};
 use octets::Refusal;
-use std::alloc::{AllocError, Global};
 use std::io;
 
-// An end: the connection, its tables, and the output that it is lent.
+// An end: the connection, and its tables and the output that it is lent, arrays that `play` holds.
 #[derive(Drop)]
-pub(crate) struct Side {
+pub(crate) struct Side<'a> {
     connection: Connection,
-    tables: Vec<u8>,
-    out: Vec<u8>,
+    tables: &'a mut [u8],
+    out: &'a mut [u8],
 }
 
 // A word, left-aligned. It is printed byte by byte, since it need be no text.
@@ -32,25 +31,21 @@ fn number(bytes: &[u8], small: u16) -> u16 {
     }
 }
 
-impl Side {
+impl<'a> Side<'a> {
     // Before a script's first calls there is a dialler with no name on both sides.
-    pub(crate) fn new(alloc: Global) -> Result<Option<Self>, AllocError> {
-        let mut tables = vec![in alloc; 0; 65536]?;
+    pub(crate) fn new(tables: &'a mut [u8], out: &'a mut [u8]) -> Result<Self, Refusal> {
         let settings = Settings {
             container_id: b"",
             max_frame_size: 512,
             channel_max: 0,
             idle_time_out: None,
         };
-        let Ok(connection) = Connection::dialler(&settings, &mut tables) else {
-            return Ok(None);
-        };
-        let out = vec![in alloc; 0; 65536]?;
-        Ok(Some(Side {
+        let connection = Connection::dialler(&settings, tables)?;
+        Ok(Side {
             connection,
             tables,
             out,
-        }))
+        })
     }
 
     // The rest of a call's line: the state afterwards, what the call was lent, and the answer.
@@ -88,7 +83,7 @@ impl Side {
             channel_max,
             idle_time_out: None,
         };
-        let new = Connection::dialler(&settings, &mut self.tables);
+        let new = Connection::dialler(&settings, self.tables);
         self.made(rt, new, size)
     }
 
@@ -99,7 +94,7 @@ impl Side {
             channel_max,
             idle_time_out: Some(30000),
         };
-        let new = Connection::listener(&settings, &mut self.tables);
+        let new = Connection::listener(&settings, self.tables);
         self.made(rt, new, size)
     }
 
@@ -113,7 +108,7 @@ impl Side {
     fn receive_frame(&mut self, rt: &impl Print, bytes: &[u8], spare: u16) -> io::Result<()> {
         let received = self
             .connection
-            .receive_frame(&mut self.tables, bytes, u32::from(spare));
+            .receive_frame(self.tables, bytes, u32::from(spare));
         self.connection = received.connection;
         let answer = received.answer.map(Answer::Frame);
         self.tell(rt, Lent::Frame(bytes), answer)
@@ -123,19 +118,17 @@ impl Side {
     fn allocate_sessions(&mut self, rt: &impl Print, handle: u16, count: u16) -> io::Result<()> {
         let last = u32::from(handle) + u32::from(count.saturating_sub(1));
         for before in u32::from(handle)..last {
-            let allocated = self.connection.allocate_session(&mut self.tables, before);
+            let allocated = self.connection.allocate_session(self.tables, before);
             self.connection = allocated.connection;
         }
-        let allocated = self.connection.allocate_session(&mut self.tables, last);
+        let allocated = self.connection.allocate_session(self.tables, last);
         self.connection = allocated.connection;
         let answer = allocated.answer.map(Answer::Allocated);
         self.tell(rt, Lent::Handle(last), answer)
     }
 
     fn deallocate_session(&mut self, rt: &impl Print, channel: u16) -> io::Result<()> {
-        let freed = self
-            .connection
-            .deallocate_session(&mut self.tables, channel);
+        let freed = self.connection.deallocate_session(self.tables, channel);
         self.connection = freed.connection;
         let answer = freed.answer.map(Answer::Freed);
         self.tell(rt, Lent::Channel(channel), answer)
@@ -155,7 +148,7 @@ impl Side {
         let state = lent::state(self.connection.state());
         let channels = Channels {
             connection: self.connection,
-            tables: &self.tables,
+            tables: self.tables,
             first,
             count: if most == 0 { 8 } else { most },
         };
@@ -163,10 +156,9 @@ impl Side {
     }
 
     fn send_session_frame(&mut self, rt: &impl Print, bytes: &[u8]) -> io::Result<()> {
-        let tables = &mut self.tables;
         let sent = self
             .connection
-            .send_session_frame(tables, bytes, &mut self.out);
+            .send_session_frame(self.tables, bytes, self.out);
         self.connection = sent.connection;
         let answer = sent.answer.map(Answer::Wrote);
         self.tell(rt, Lent::Frame(bytes), answer)
@@ -243,12 +235,13 @@ impl Side {
         }
     }
 
-    // A line: whose call, its name, a number, and bytes in hexadecimal. `<` stands for the other end's output.
+    // A line: whose call, its name, a number, and bytes in hexadecimal, which are laid into a room. `<` stands for the other end's output.
     pub(crate) fn call(
         &mut self,
-        rt: &(impl Print + AllocGlobal),
+        rt: &impl Print,
         line: &[u8],
-        other: &Side,
+        other: &Side<'_>,
+        room: &mut [u8],
     ) -> io::Result<()> {
         let mut parts = line.split(|b| *b == b' ').filter(|word| !word.is_empty());
         let side = parts.next().unwrap_or_default();
@@ -258,10 +251,14 @@ impl Side {
         column(rt, side, 6)?;
         column(rt, name, 24)?;
         if text.starts_with(b"<") {
-            return self.run(rt, Call::from(name), n, &other.out);
+            return self.run(rt, Call::from(name), n, other.out);
         }
-        let mut bytes = vec![in rt.alloc(); 0; (text.len() / 2).min(8192)]?;
-        let _ = words::hex(text, &mut bytes);
-        self.run(rt, Call::from(name), n, &bytes)
+        let filled = words::hex(text, room);
+        self.run(
+            rt,
+            Call::from(name),
+            n,
+            room.get(..filled).unwrap_or_default(),
+        )
     }
 }
